@@ -1,0 +1,4 @@
+pub mod Names
+pub mod Blocks
+pub mod Refusals
+pub mod Questions

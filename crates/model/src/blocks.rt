@@ -1,0 +1,106 @@
+ghost use mathlib.Core.Path.{_≡_};
+ghost use mathlib.Core.List.{[], _∷_, _++_};
+ghost use Prim.Native.Nat.{ℕ};
+ghost use lib.ListN.{length};
+ghost use Rattle.std.specs.Options.{Cases};
+ghost use Rattle.model.specs.Blocks.{referred};
+use crate::names::Name;
+
+/// What a side block enters into the register: a sonde's number is bound to a calibration certificate for a flight,
+/// or released from a flight. Each number is from 1 to 2^28 - 1.
+#[derive(Clone, Copy)]
+pub enum Entry {
+    Bind {
+        sonde: u32,
+        certificate: u32,
+        flight: u32,
+    },
+    Release {
+        sonde: u32,
+        flight: u32,
+    },
+}
+
+/// Up to four names of side blocks, in their order. Its cases leave no two forms for one row of names.
+#[derive(Clone, Copy)]
+pub enum References {
+    Empty,
+    One(Name),
+    Two(Name, Name),
+    Three(Name, Name, Name),
+    Four(Name, Name, Name, Name),
+}
+
+/// A block that carries one entry.
+#[derive(Clone, Copy)]
+pub struct SideBlock {
+    pub name: Name,
+    pub author: u32,
+    pub entry: Entry,
+    pub references: References,
+}
+
+/// The backbone block below a backbone block: genesis, or one of a lower view.
+#[derive(Clone, Copy)]
+pub struct Parent {
+    pub view: u32,
+    pub name: Name,
+}
+
+/// A block of the chain that the stations agree on, one to a view.
+#[derive(Clone, Copy)]
+pub struct BackboneBlock {
+    pub name: Name,
+    pub author: u32,
+    pub view: u32,
+    pub parent: Parent,
+    pub references: References,
+}
+
+/// A block of either sort.
+#[derive(Clone, Copy)]
+pub enum Block {
+    Side(SideBlock),
+    Backbone(BackboneBlock),
+}
+
+impl References {
+    /// How many there are.
+    pub fn len(self) -> usize
+        ensures { λ r. ⌜ r ≡ length (referred self) ⌝ }
+    {
+        match self {
+            References::Empty => 0,
+            References::One(_) => 1,
+            References::Two(_, _) => 2,
+            References::Three(_, _, _) => 3,
+            References::Four(_, _, _, _) => 4,
+        }
+    }
+
+    /// These and then `name`, unless there are four already.
+    pub fn with(self, name: Name) -> Option<References>
+        ensures { λ r. ⌜ Cases r (length (referred self) ≡ 4) (λ longer. referred longer ≡ referred self ++ name ∷ []) ⌝ }
+    {
+        match self {
+            References::Empty => Some(References::One(name)),
+            References::One(a) => Some(References::Two(a, name)),
+            References::Two(a, b) => Some(References::Three(a, b, name)),
+            References::Three(a, b, c) => Some(References::Four(a, b, c, name)),
+            References::Four(_, _, _, _) => None,
+        }
+    }
+
+    /// The first and those behind it, if there is one.
+    pub fn split_first(self) -> Option<(Name, References)>
+        ensures { λ r. ⌜ Cases r (referred self ≡ []) (λ p. referred self ≡ p .0 ∷ referred (p .1)) ⌝ }
+    {
+        match self {
+            References::Empty => None,
+            References::One(a) => Some((a, References::Empty)),
+            References::Two(a, b) => Some((a, References::One(b))),
+            References::Three(a, b, c) => Some((a, References::Two(b, c))),
+            References::Four(a, b, c, d) => Some((a, References::Three(b, c, d))),
+        }
+    }
+}
