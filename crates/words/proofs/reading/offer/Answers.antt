@@ -1,0 +1,25 @@
+use borrow.Author.Needs.{needs}
+use mathlib.Core.Path.{_≡_, refl}
+use Prim.Native.Nat.{_≤_}
+use native.Mathlib.Omega.{arith}
+use lib.ListN.{length}
+use Rattle.words.specs.Layouts.{kinds-of}
+use Rattle.words.specs.declared.layouts.Layout.the-variants.{Offer}
+use Rattle.words.proofs.Bodies.{offer-body}
+use Rattle.words.proofs.Fronts.{kinds-at-four, kinds-of-rest}
+use Rattle.words.proofs.reading.offer.Needs as need
+
+pub name-from-requires : need.name-from-requires
+name-from-requires c κs =
+    let ws = c .args .words .now in
+    let l : 8 ≤ length ws = search needs in
+    kinds-at-four (kinds-of Offer) ws 2 (c .pre .1) (omega arith)
+
+pub returns : need.returns
+returns c =
+    let ws = c .args .words .now in
+    let l : 8 ≤ length ws = search needs in
+    let e = offer-body ws _ _ _ _ _ (c .pre .1) l (c .value-of .ensures .0) (c .value-of-2 .ensures .0) (c .name-from .ensures .words)
+    (c .value-of-3 .ensures .0) (c .value-of-4 .ensures .0) in
+    let k = kinds-of-rest 8 (kinds-of Offer) ws (c .pre .1) in
+    record { layout = refl; whole = search needs; same = e }

@@ -1,0 +1,5 @@
+pub mod Words
+pub mod Layouts
+pub mod Messages
+pub mod Claims
+pub mod Places
