@@ -3,5 +3,8 @@ pub mod Fronts
 pub mod NamesWords
 pub mod SmallNames
 pub mod Placing
+pub mod ClaimWords
 pub mod Bodies
 pub mod Wholes
+pub mod RoundTrip
+pub mod ClaimsBack

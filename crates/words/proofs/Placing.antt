@@ -9,8 +9,8 @@ use borrow.Author.Needs.{needs}
 use mathlib.Core.Bool.{true}
 use lib.ListN.{length, take, drop, length-append, length-drop}
 use Rattle.std.proofs.shelf.Lists.{take-at, drop-at, drop-drop, append-assoc, take-append-drop, length-take-le}
-use Rattle.words.specs.Messages.{Said, fits, encoded, In-front, Writes}
-use Rattle.words.specs.Places.{placed}
+use Rattle.words.specs.Messages.{Said, fits, encoded, Writes}
+use Rattle.words.specs.Places.{placed, In-front}
 
 -- a copy into a part of a slice
 pub placed-put : (at : ℕ) (old ws xs : List ℕ) → xs ≡ ws → putMid at (at + length ws - at) old xs ≡ placed at ws old

@@ -86,7 +86,7 @@ announces : (l : Layout) (n : ℕ) → counts l n ≡ true → layout-behind (he
 announces l n h = let k = taken l n h in head-says (type-of l) n (omega (arith, k .known)) (omega (arith, k .few)) ∙ k .again
 
 -- one word, and the four words of a name, have the kinds asked for
-kind-of-word : (k v : ℕ) (ks ws : List ℕ) → small v ≡ true → right-kinds ks ws ≡ true → right-kinds (k ∷ ks) (word k v ∷ ws) ≡ true
+pub kind-of-word : (k v : ℕ) (ks ws : List ℕ) → small v ≡ true → right-kinds ks ws ≡ true → right-kinds (k ∷ ks) (word k v ∷ ws) ≡ true
 unfolding right-kinds
 kind-of-word k v ks ws s r = let e : kind (word k v) ≡ k = search needs in search needs
 
@@ -158,6 +158,9 @@ encoded-kinds (claim c) h =
     kind-of-word 4 (c .station) _ _ (search needs) (kind-of-word 2 (c .view) _ _ (search needs) (kind-of-word 2 (c .height) _ _ (search needs) (no-words [])))
 encoded-kinds probe h = no-words []
 encoded-kinds leave h = no-words []
+
+pub encoded-announced : (s : Said) → fits s ≡ true → layout-behind (head (type-of (layout s)) (length (body s))) (length (body s)) ≡ Some (layout s)
+encoded-announced s h = announces (layout s) (length (body s)) (encoded-counts s h)
 
 -- Words of a message pass each test: what its head announces, and the kinds.
 record Passes (w : ℕ) (ws : List ℕ) : Type 0 where

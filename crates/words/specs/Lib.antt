@@ -1,5 +1,5 @@
 pub mod Words
+pub mod Places
+pub mod Claims
 pub mod Layouts
 pub mod Messages
-pub mod Claims
-pub mod Places

@@ -24,6 +24,7 @@ use Rattle.model.specs.declared.statements.Offer.{Offer}
 use Rattle.model.specs.declared.statements.Voices.{Voices}
 use Rattle.words.specs.Claims.{are-claims}
 use Rattle.words.specs.Layouts.{type-of}
+use Rattle.words.specs.Places.{In-front}
 use Rattle.words.specs.Words.{word, head, small, small-name, small-names, small-entry, small-voices, name-words, names-words, entry-words, voices-words}
 use Rattle.words.specs.declared.layouts.Layout.{Layout}
 use Rattle.words.specs.declared.layouts.Layout.the-variants.{Bind as BindLayout, Release as ReleaseLayout, Backbone as BackboneLayout, Offer as OfferLayout, Voices as VoicesLayout, Certificate as CertificateLayout, Claim as ClaimLayout, Probe as ProbeLayout, Leave as LeaveLayout}
@@ -114,10 +115,6 @@ Reads ws (Err e) = (number e ≡ 24) × ((s : Said) → Words-of s ws → ⊥)
 -- Write: is there space, and does every number and count fit?
 abbrev pub write-questions : Said → ℕ → List Question
 write-questions s space = (25, fits s && leb (length (encoded s)) space) ∷ []
-
--- The message's words stand in front, and what stood behind them stays.
-abbrev pub In-front : List ℕ → List ℕ → List ℕ → ℕ → Type 0
-In-front ws old new n = (n ≡ length ws) × (new ≡ ws ++ drop n old)
 
 abbrev pub Writes : Said → List ℕ → List ℕ → Result ℕ Refusal → Type 0
 Writes s old new r = Answered (write-questions s (length old)) old new (λ n. In-front (encoded s) old new n) r

@@ -4,9 +4,9 @@ ghost use mathlib.Core.List.{[], _∷_, _++_};
 ghost use Prim.Native.Nat.{ℕ, _+_, _≤_};
 ghost use lib.ListN.{length, drop};
 ghost use Rattle.model.specs.Blocks.{referred};
-ghost use Rattle.words.specs.Messages.{said, fits, body, encoded, In-front, Writes};
+ghost use Rattle.words.specs.Messages.{said, fits, body, encoded, Writes};
 ghost use Rattle.words.specs.Messages.{backbone as backboneT, offer as offerT, side as sideT, voices as voicesT, claim as claimT};
-ghost use Rattle.words.specs.Places.{placed};
+ghost use Rattle.words.specs.Places.{In-front, placed};
 ghost use Rattle.words.specs.Words.{small-names, small-entry, names-words, head};
 use crate::kinds::hold_claims;
 use crate::messages::Message;
@@ -108,7 +108,7 @@ fn count_words(message: &Message<'_>) -> usize
 }
 
 /// Writes a part of the words over what stood from a place on.
-fn put(words: &mut [u32], at: usize, part: &[u32])
+pub(crate) fn put(words: &mut [u32], at: usize, part: &[u32])
     requires { ⌜ at + length (now part) ≤ length (now words) ⌝ }
     ensures { λ _. ⌜ now (words .exit) ≡ placed at (now (part .entry)) (now (words .entry)) ⌝ }
 {
