@@ -1,2 +1,6 @@
 pub mod Masks
 pub mod Meetings
+pub mod Ledgers
+pub mod Stations
+pub mod Hearings
+pub mod Makes

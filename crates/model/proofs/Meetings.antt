@@ -45,7 +45,7 @@ beyond (suc n) m l h k = go (decLe (ones (m / 2)) (ones (l / 2))) (beyond n (m /
         let q : l % 2 ≡ 0 = omega (arith, ones-step m, ones-step l) in
         (0, omega arith, has-lowest m 1 p, has-lowest l 0 q)
 
-meet : (s : Numbers) (liars a b : ℕ) → Few s liars → Quorum s a → Quorum s b
+pub meet : (s : Numbers) (liars a b : ℕ) → Few s liars → Quorum s a → Quorum s b
     → (i : ℕ) × (Correct s liars i) × (has a i ≡ true) × (has b i ≡ true)
 meet s liars a b few p q =
     let t = beyond (stations s) (bitAnd a b) liars (and-lt (stations s) a b (inside s a p) (inside s b q)) (omega (arith, few .1, share s a b p q)) in
@@ -95,6 +95,10 @@ correct : (s : Numbers) (liars : ℕ) → Few s liars → Quorum s (honest s lia
 correct s liars few =
     let w : within s (honest s liars) ≡ true = lt-ltb (honest s liars) (2 ^ stations s) (omega (arith, pow-pos (stations s))) in
     enough s liars (honest s liars) few w (λ i c. honestly s liars few i (c .0) ∙ ap not (c .1))
+
+-- where nobody lies, few do
+pub nobody-lies : (s : Numbers) → Few s 0
+nobody-lies s = (lt-ltb 0 (2 ^ stations s) (pow-pos (stations s)), omega (arith, ones-le 0 0 (omega arith)))
 
 pub quorum-laws : Quorum-laws
 quorum-laws = record { share = share; meet = meet; correct = correct; honestly = honestly; enough = enough }

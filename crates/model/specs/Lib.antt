@@ -4,3 +4,7 @@ pub mod Refusals
 pub mod Questions
 pub mod Quorums
 pub mod Votes
+pub mod Ledgers
+pub mod Broadcasts
+pub mod Makes
+pub mod Laws

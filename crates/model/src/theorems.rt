@@ -1,8 +1,16 @@
 //! Theorems on the rules, each the contract of a function that does nothing else.
 
+ghost use Rattle.model.specs.Laws.{All-enter, First-quorum-gives, Station-by-station};
 ghost use Rattle.model.specs.Quorums.{Quorum-laws};
 
 /// Any two quorums share a station that does not lie, and the stations that do not lie are a quorum.
 pub fn quorums_stand()
     ensures { λ _. ⌜ Quorum-laws ⌝ }
+{}
+
+/// What masks and ledgers are, station by station; which Hear gives the second vote; that all of a mask is entered.
+pub fn ledgers_stand()
+    ensures stations { λ _. ⌜ Station-by-station ⌝ }
+    ensures gives { λ _. ⌜ First-quorum-gives ⌝ }
+    ensures enters { λ _. ⌜ All-enter ⌝ }
 {}
