@@ -12,6 +12,7 @@ use model::Numbers;
 use model::Refusal;
 use model::SecondVote;
 
+pub mod clauses;
 pub mod relayed;
 pub mod relays;
 pub mod support;

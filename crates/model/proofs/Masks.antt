@@ -9,7 +9,7 @@ use lib.Bits.{bitAnd, and-step, and-shr}
 use lib.Count.{ones, ones-step, ones-le, trailingZeros, under as lowest}
 use lib.Dec.{eqb}
 use lib.Pow.{pow-mono}
-use Rattle.std.proofs.shelf.Tests.{cases-lt, eqb-true}
+use Rattle.std.proofs.shelf.Tests.{both-ways, cases-lt, eqb-true}
 use Rattle.model.specs.Quorums.{has}
 
 -- half of a mask
@@ -49,6 +49,14 @@ has-both a b i h =
     let p : a / 2 ^ i % 2 ≡ 1 = omega arith in
     let q : b / 2 ^ i % 2 ≡ 1 = omega arith in
     (ap (λ x. eqb x 1) p, ap (λ x. eqb x 1) q)
+
+-- a mask below 2 ^ n has stations below n
+pub has-below : (n m i : ℕ) → m < 2 ^ n → has m i ≡ true → i < n
+has-below zero m i h t =
+    let e : m ≡ 0 = omega arith in
+    absurd (both-ways (has m i) (ap (λ x. has x i) e ∙ has-none i) t)
+has-below (suc n) m zero h t = omega arith
+has-below (suc n) m (suc i) h t = let r = has-below n (m / 2) i (half-lt m n h) (sym (has-up m i) ∙ t) in omega arith
 
 -- a mask of one station is a power of two
 ones-none : (k : ℕ) → ones k ≡ 0 → k ≡ 0

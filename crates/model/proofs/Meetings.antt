@@ -12,7 +12,7 @@ use Rattle.std.proofs.shelf.Bits.{pow-pos}
 use Rattle.std.proofs.shelf.Tests.{and-parts, and-from, leb-true, le-leb, ltb-true, lt-ltb, eqb-true}
 use Rattle.model.specs.declared.numbers.Numbers.{Numbers}
 use Rattle.model.specs.Quorums.{stations, has, within, weight, needed, tolerated, Quorum, Few, Correct, honest, Quorum-laws}
-use Rattle.model.proofs.Masks.{half-lt, half-and, low-and, has-up, has-lowest, has-low, has-both}
+use Rattle.model.proofs.Masks.{half-lt, half-and, low-and, has-up, has-lowest, has-low, has-both, has-below}
 
 -- what a quorum is
 many : (s : Numbers) (m : ℕ) → Quorum s m → needed s ≤ weight s m
@@ -96,9 +96,12 @@ correct s liars few =
     let w : within s (honest s liars) ≡ true = lt-ltb (honest s liars) (2 ^ stations s) (omega (arith, pow-pos (stations s))) in
     enough s liars (honest s liars) few w (λ i c. honestly s liars few i (c .0) ∙ ap not (c .1))
 
+members : (s : Numbers) (m i : ℕ) → within s m ≡ true → has m i ≡ true → i < stations s
+members s m i w h = has-below (stations s) m i (ltb-true m (2 ^ stations s) w) h
+
 -- where nobody lies, few do
 pub nobody-lies : (s : Numbers) → Few s 0
 nobody-lies s = (lt-ltb 0 (2 ^ stations s) (pow-pos (stations s)), omega (arith, ones-le 0 0 (omega arith)))
 
 pub quorum-laws : Quorum-laws
-quorum-laws = record { share = share; meet = meet; correct = correct; honestly = honestly; enough = enough }
+quorum-laws = record { share = share; meet = meet; members = members; correct = correct; honestly = honestly; enough = enough }

@@ -3,17 +3,19 @@ use borrow.Author.Needs.{needs}
 use mathlib.Core.Bool.{Bool, true, false, not, _&&_}
 use mathlib.Core.List.{List, [], _∷_}
 use mathlib.Core.Path.{_≡_, refl, sym, ap, _∙_}
+use native.Mathlib.Nat.{pow-succ'}
 use native.Mathlib.Omega.{arith}
-use Prim.Native.Nat.{ℕ, zero, suc, _+_, _*_, _/_, _%_, _<_}
+use Prim.Native.Nat.{ℕ, zero, suc, _+_, _*_, _/_, _%_, _^_, _<_, _≤_}
 use lib.Dec.{eqb}
 use lib.ListN.{length}
-use Rattle.std.proofs.shelf.Tests.{and-parts, and-from, both-ways, not-true, not-from-false, cases-bool, false≢true}
+use Rattle.std.proofs.shelf.Bits.{pow-pos}
+use Rattle.std.proofs.shelf.Tests.{and-parts, and-from, both-ways, not-true, lt-ltb, false≢true}
 use Rattle.std.specs.declared.option.Option.{Option}
 use Rattle.std.specs.declared.option.Option.the-variants.{Some, None}
 use Rattle.model.specs.declared.names.Name.{Name}
 use Rattle.model.specs.declared.numbers.Numbers.{Numbers}
 use Rattle.model.specs.Names.{same}
-use Rattle.model.specs.Quorums.{has, Quorum}
+use Rattle.model.specs.Quorums.{has, stations, within, Quorum}
 use Rattle.model.specs.Ledgers.{Ledger, at, is, bit, entry, under, enter, clear, vacant}
 use Rattle.model.specs.Laws.{Station-by-station}
 use Rattle.model.proofs.Masks.{has-up, has-low, has-none}
@@ -32,6 +34,25 @@ masks x (e ∷ es) zero =
 masks x (e ∷ es) (suc i) =
     let h : (bit (is x e) + 2 * under x es) / 2 ≡ under x es = search needs in
     has-up (bit (is x e) + 2 * under x es) i ∙ ap (λ k. has k i) h ∙ masks x es i
+
+under-lt : (n : ℕ) (x : Name) (l : Ledger) → ((i : ℕ) → n ≤ i → at l i ≡ None) → under x l < 2 ^ n
+unfolding under
+under-lt n x [] h = pow-pos n
+under-lt zero x (e ∷ es) h =
+    let r = under-lt zero x es (λ i k. h (suc i) (omega arith)) in
+    let z : bit (is x e) ≡ 0 = ap (λ o. bit (is x o)) (h 0 (omega arith)) in
+    omega arith
+under-lt (suc n) x (e ∷ es) h =
+    let r = under-lt n x es (λ i k. h (suc i) (omega arith)) in
+    let p = pow-succ' 2 n in
+    omega (arith, bit-le (is x e))
+  where
+    bit-le : (b : Bool) → bit b ≤ 1
+    bit-le true = omega arith
+    bit-le false = omega arith
+
+within-if : (s : Numbers) (x : Name) (l : Ledger) → ((i : ℕ) → stations s ≤ i → at l i ≡ None) → within s (under x l) ≡ true
+within-if s x l h = lt-ltb (under x l) (2 ^ stations s) (under-lt (stations s) x l h)
 
 pub enters : (x : Name) (k : ℕ) (l : Ledger) (i : ℕ) → i < length l → at (enter x k l) i ≡ entry x (has k i) (at l i)
 unfolding enter
@@ -86,6 +107,7 @@ one-quorum s l x y p q =
 pub station-by-station : Station-by-station
 station-by-station = record {
   masks = masks;
+  within-if = within-if;
   enters = enters;
   keeps-length = length-enter;
   clears = clears;

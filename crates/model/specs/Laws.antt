@@ -1,20 +1,22 @@
 -- What masks and ledgers are, station by station, and which Hear gives the second vote. Assumes nothing.
 use mathlib.Core.Bool.{Bool, true, false}
 use mathlib.Core.Path.{_≡_}
-use Prim.Native.Nat.{ℕ, _<_}
+use Prim.Native.Nat.{ℕ, _<_, _≤_}
 use lib.ListN.{length}
 use Rattle.std.specs.declared.option.Option.the-variants.{Some, None}
 use Rattle.model.specs.declared.names.Name.{Name}
 use Rattle.model.specs.declared.numbers.Numbers.{Numbers}
 use Rattle.model.specs.declared.votes.Grade.{Grade}
 use Rattle.model.specs.declared.votes.SecondVote.the-variants.{Waiting, Given}
-use Rattle.model.specs.Quorums.{has, Quorum}
+use Rattle.model.specs.Quorums.{has, stations, within, Quorum}
 use Rattle.model.specs.Ledgers.{Ledger, at, is, entry, under, enter, clear, vacant}
 use Rattle.model.specs.Broadcasts.{Meaning, ledger, heard}
 
 pub record Station-by-station : Type 0 where
   -- the mask under a name has just the stations whose entry is that name
   pub masks : (x : Name) (l : Ledger) (i : ℕ) → has (under x l) i ≡ is x (at l i)
+  -- where no station from the number of stations up has an entry, it is a mask of stations
+  pub within-if : (s : Numbers) (x : Name) (l : Ledger) → ((i : ℕ) → stations s ≤ i → at l i ≡ None) → within s (under x l) ≡ true
   -- entering a mask leaves each entry, and gives the name to just the stations of the mask that had none
   pub enters : (x : Name) (k : ℕ) (l : Ledger) (i : ℕ) → i < length l → at (enter x k l) i ≡ entry x (has k i) (at l i)
   pub keeps-length : (x : Name) (k : ℕ) (l : Ledger) → length (enter x k l) ≡ length l

@@ -78,6 +78,8 @@ pub record Quorum-laws : Type 0 where
   pub share : (s : Numbers) (a b : ℕ) → Quorum s a → Quorum s b → tolerated s < weight s (bitAnd a b)
   pub meet : (s : Numbers) (liars a b : ℕ) → Few s liars → Quorum s a → Quorum s b
       → (i : ℕ) × (Correct s liars i) × (has a i ≡ true) × (has b i ≡ true)
+  -- who is in a mask of stations is a station
+  pub members : (s : Numbers) (m i : ℕ) → within s m ≡ true → has m i ≡ true → i < stations s
   pub correct : (s : Numbers) (liars : ℕ) → Few s liars → Quorum s (honest s liars)
   -- the honest mask, station by station
   pub honestly : (s : Numbers) (liars : ℕ) → Few s liars → (i : ℕ) → i < stations s → has (honest s liars) i ≡ not (has liars i)

@@ -70,7 +70,7 @@ impl Numbers {
 
     /// The station of a mask that has exactly one.
     pub fn only_station(self, mask: u32) -> Option<usize>
-        ensures { λ r. ⌜ Cases r (single self mask ≡ false) (λ i. (single self mask ≡ true) × (mask ≡ 2 ^ i) × (i < 28)) ⌝ }
+        ensures { λ r. ⌜ Cases r (single self mask ≡ false) (λ i. (single self mask ≡ true) × (mask ≡ 2 ^ i) × (i < stations self)) ⌝ }
     {
         if mask.count_ones() == 1 && self.is_within(mask) {
             Some(mask.trailing_zeros() as usize)

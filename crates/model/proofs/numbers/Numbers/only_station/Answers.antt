@@ -19,6 +19,6 @@ returns-then-is-within c =
     let m : 2 ^ stations s ≤ 2 ^ 28 = pow-mono n in
     let h : k < 2 ^ 32 = omega arith in
     let e : k ≡ 2 ^ trailingZeros 32 k = one-station 32 k h o in
-    let b : 2 ^ trailingZeros 32 k < 2 ^ 28 = omega arith in
+    let b : 2 ^ trailingZeros 32 k < 2 ^ stations s = omega arith in
     let t : single s k ≡ true = search needs in
-    (t, e, pow-below (trailingZeros 32 k) 28 b)
+    (t, e, pow-below (trailingZeros 32 k) (stations s) b)
