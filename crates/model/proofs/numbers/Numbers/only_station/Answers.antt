@@ -1,11 +1,10 @@
 use borrow.Author.Needs.{needs}
-use mathlib.Core.Bool.{true}
 use mathlib.Core.Path.{_≡_}
 use native.Mathlib.Omega.{arith}
-use Prim.Native.Nat.{_+_, _*_, _^_, _<_, _≤_}
+use Prim.Native.Nat.{_^_, _<_, _≤_}
 use lib.Count.{ones, trailingZeros}
 use lib.Pow.{pow-mono}
-use Rattle.model.specs.Quorums.{single, stations}
+use Rattle.model.specs.Quorums.{stations}
 use Rattle.model.proofs.Masks.{one-station, pow-below}
 use Rattle.model.proofs.numbers.Numbers.only_station.Needs as need
 
@@ -17,8 +16,6 @@ returns-then-is-within c =
     let w : k < 2 ^ stations s = search needs in
     let n : stations s ≤ 28 = omega arith in
     let m : 2 ^ stations s ≤ 2 ^ 28 = pow-mono n in
-    let h : k < 2 ^ 32 = omega arith in
-    let e : k ≡ 2 ^ trailingZeros 32 k = one-station 32 k h o in
-    let b : 2 ^ trailingZeros 32 k < 2 ^ stations s = omega arith in
-    let t : single s k ≡ true = search needs in
-    (t, e, pow-below (trailingZeros 32 k) (stations s) b)
+    let e : k ≡ 2 ^ trailingZeros 32 k = one-station 32 k (omega arith) o in
+    let b = pow-below (trailingZeros 32 k) (stations s) (omega arith) in
+    search needs
