@@ -39,6 +39,9 @@ fn reason(why: Refusal) -> &'static str {
 }
 
 fn print_stations(rt: &LibcRuntime, mask: u32) -> io::Result<()> {
+    if mask == 0 {
+        return print!(rt, " nobody");
+    }
     for station in 0u32..32 {
         if (mask >> station) & 1 == 1 {
             print!(rt, " {station}")?;

@@ -1,3 +1,4 @@
+use borrow.Author.Needs.{needs}
 use Rattle.model.specs.Broadcasts.{Hears, hear-questions}
 use Rattle.model.proofs.Hearings.{answered-more, accepted}
 use Rattle.broadcast.proofs.clauses.hear.Needs as need
@@ -12,6 +13,6 @@ returns g c =
     let h = c .args .grade in
     let x = c .args .name in
     let k = c .args .mask in
-    answered-more (hear-questions fits free m h x k) m n (λ a. hears m h x k a n) (λ a. Hears m h x k a n) (c .hear .result)
-    (λ none a t. let both = accepted fits free m h x k none in g .B·Broadcast·met .keeps m h x k a n (both .0) (both .1) t)
-    (c .hear .ensures)
+    let more = answered-more (hear-questions fits free m h x k) m n (λ a. hears m h x k a n) (λ a. Hears m h x k a n) (c .hear .result)
+    (λ none a t. let both = accepted fits free m h x k none in g .B·Broadcast·met .keeps m h x k a n (both .0) (both .1) t) in
+    search needs
