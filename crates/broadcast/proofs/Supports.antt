@@ -5,7 +5,7 @@ use mathlib.Core.Logic.{_⊎_, inl, inr, ⊎-elim}
 use mathlib.Core.Path.{_≡_, refl, sym, ap, _∙_}
 use native.Mathlib.Omega.{arith}
 use Prim.Native.Nat.{ℕ, _+_, _*_, _^_, _<_, _≤_}
-use lib.Bits.{bitAnd, bitOr, or-lt, or-zero-l}
+use lib.Bits.{bitAnd, bitOr, or-comm, or-lt, or-zero-l}
 use lib.Dec.{eqb, ltb}
 use lib.Pow.{pow-mono}
 use Rattle.std.proofs.shelf.Bits.{pow-pos}
@@ -122,11 +122,12 @@ module _ (b : Relayed) where
           let z : cond (same x (w .name)) (w .mask) 0 ≡ w .mask = search needs in
           ap (λ y. enter x k (enter y (w .mask) empty)) e ∙ enter-twice x (w .mask) k empty ∙ ap (λ j. enter x (bitOr j k) empty) (sym z)
 
-  -- where a Hear is accepted: the four facts of the support that is put in the old one's place
+  -- where a Hear is accepted: the facts of the support that is put in the old one's place
   pub record Put (g : Grade) (x : Name) (k : ℕ) : Type 0 where
     pub inside : within (b .numbers) (bitOr (under x (ledger (relay b) g)) k) ≡ true
     pub own : owned (b .numbers) (b .view) (b .first) (record { name = x; mask = bitOr (under x (ledger (relay b) g)) k }) ≡ true
     pub is : enter x (bitOr (under x (ledger (relay b) g)) k) empty ≡ enter x k (ledger (relay b) g)
+    pub order : bitOr (under x (ledger (relay b) g)) k ≡ bitOr k (under x (ledger (relay b) g))
     pub mask : under x (enter x (bitOr (under x (ledger (relay b) g)) k) empty) ≡ bitOr (under x (ledger (relay b) g)) k
 
   pub put : (g : Grade) (x : Name) (k : ℕ) → first-no (hear-questions relay-fits relay-free (relay b) g x k) ≡ None → Put g x k
@@ -138,5 +139,6 @@ module _ (b : Relayed) where
         inside = w;
         own = fits-owned g x k j (both .0);
         is = sym (enter-more g x k (both .0) (both .1));
+        order = or-comm (under x (ledger (relay b) g)) k;
         mask = under-self (b .numbers) x j w;
       }

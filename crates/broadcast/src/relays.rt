@@ -152,9 +152,8 @@ pub impl Broadcast for Relayed as RelayedBroadcast {
         if !self.numbers.first_quorum(before, all) {
             return Ok(None);
         }
-        match grade {
-            Grade::One => self.second = self.second.step(Event::HeardQuorum(name)),
-            Grade::Two => {}
+        if let Grade::One = grade {
+            self.second = self.second.step(Event::HeardQuorum(name));
         }
         Ok(if self.numbers.leads(self.view) {
             Some(all)

@@ -149,9 +149,8 @@ pub impl Broadcast for AllToAll as AllToAllBroadcast {
         if !self.numbers.first_quorum(before, self.mask(grade, name)) {
             return Ok(None);
         }
-        match grade {
-            Grade::One => self.second = self.second.step(Event::HeardQuorum(name)),
-            Grade::Two => {}
+        if let Grade::One = grade {
+            self.second = self.second.step(Event::HeardQuorum(name));
         }
         Ok(None)
     }

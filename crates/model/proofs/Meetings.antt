@@ -1,6 +1,6 @@
 -- Two quorums share more than may lie, and the stations that do not lie are a quorum.
 use mathlib.Core.Bool.{Bool, true, false, not, _&&_}
-use mathlib.Core.Path.{_≡_, refl, sym, ap, _∙_}
+use mathlib.Core.Path.{_≡_, refl, sym, ap, ap₂, _∙_}
 use Prim.Native.Nat.{ℕ, zero, suc, min, _+_, _-_, _*_, _/_, _%_, _^_, _<_, _≤_}
 use native.Mathlib.Decide.{decLe}
 use native.Mathlib.Nat.{pow-succ'}
@@ -11,7 +11,7 @@ use lib.Dec.{eqb, leb, ltb}
 use Rattle.std.proofs.shelf.Bits.{pow-pos}
 use Rattle.std.proofs.shelf.Tests.{and-parts, and-from, leb-true, le-leb, ltb-true, lt-ltb, eqb-true}
 use Rattle.model.specs.declared.numbers.Numbers.{Numbers}
-use Rattle.model.specs.Quorums.{stations, has, within, weight, needed, tolerated, Quorum, Few, Correct, honest, Quorum-laws}
+use Rattle.model.specs.Quorums.{stations, leader, has, within, weight, needed, tolerated, quorum, Quorum, Few, Correct, honest, Alike, Quorum-laws}
 use Rattle.model.proofs.Masks.{half-lt, half-and, low-and, has-up, has-lowest, has-low, has-both, has-below}
 
 -- what a quorum is
@@ -99,9 +99,17 @@ correct s liars few =
 members : (s : Numbers) (m i : ℕ) → within s m ≡ true → has m i ≡ true → i < stations s
 members s m i w h = has-below (stations s) m i (ltb-true m (2 ^ stations s) w) h
 
+-- all go by the one number
+alike : (s t : Numbers) → Alike s t
+    → ((m : ℕ) → quorum s m ≡ quorum t m) × ((m : ℕ) → Few s m → Few t m) × ((v : ℕ) → leader s v ≡ leader t v) × (stations s ≡ stations t)
+alike s t e =
+    let n : stations s ≡ stations t = ap (λ f. 3 * f + 1) e in
+    let w : (m : ℕ) → within s m ≡ within t m = λ m. ap (λ k. ltb m (2 ^ k)) n in
+    (λ m. ap₂ (λ f b. leb (2 * f + 1) (ones m) && b) e (w m), λ m few. (sym (w m) ∙ few .0, omega (arith, few .1)), λ v. ap (λ k. v % k) n, n)
+
 -- where nobody lies, few do
 pub nobody-lies : (s : Numbers) → Few s 0
 nobody-lies s = (lt-ltb 0 (2 ^ stations s) (pow-pos (stations s)), omega (arith, ones-le 0 0 (omega arith)))
 
 pub quorum-laws : Quorum-laws
-quorum-laws = record { share = share; meet = meet; members = members; correct = correct; honestly = honestly; enough = enough }
+quorum-laws = record { share = share; meet = meet; alike = alike; members = members; correct = correct; honestly = honestly; enough = enough }

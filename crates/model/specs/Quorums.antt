@@ -71,6 +71,10 @@ Correct s liars i = (i < stations s) × (has liars i ≡ false)
 abbrev pub honest : Numbers → ℕ → ℕ
 honest s liars = 2 ^ stations s - 1 - liars
 
+-- two stations of one start: the same numbers, but for their own
+abbrev pub Alike : Numbers → Numbers → Type 0
+Alike s t = s .f ≡ t .f
+
 -- All that later proofs may use of quorums: any two of them share a station that does not lie,
 -- and the stations that do not lie are one.
 pub record Quorum-laws : Type 0 where
@@ -78,6 +82,9 @@ pub record Quorum-laws : Type 0 where
   pub share : (s : Numbers) (a b : ℕ) → Quorum s a → Quorum s b → tolerated s < weight s (bitAnd a b)
   pub meet : (s : Numbers) (liars a b : ℕ) → Few s liars → Quorum s a → Quorum s b
       → (i : ℕ) × (Correct s liars i) × (has a i ≡ true) × (has b i ≡ true)
+  -- stations of one start have the same quorums, leaders and bounds
+  pub alike : (s t : Numbers) → Alike s t
+      → ((m : ℕ) → quorum s m ≡ quorum t m) × ((m : ℕ) → Few s m → Few t m) × ((v : ℕ) → leader s v ≡ leader t v) × (stations s ≡ stations t)
   -- who is in a mask of stations is a station
   pub members : (s : Numbers) (m i : ℕ) → within s m ≡ true → has m i ≡ true → i < stations s
   pub correct : (s : Numbers) (liars : ℕ) → Few s liars → Quorum s (honest s liars)

@@ -51,7 +51,7 @@ impl Numbers {
     pub fn is_within(self, mask: u32) -> bool
         ensures { λ r. ⌜ r ≡ within self mask ⌝ }
     {
-        mask < 1u32 << (3 * self.f + 1)
+        mask < 1u32 << self.stations()
     }
 
     /// Whether the mask holds a quorum: 2f + 1 stations or more, and nothing but stations.
