@@ -32,15 +32,19 @@ pub trait Observe {
     /// Whether the places for them are free.
     ghost free: { Asking };
 
+    /// The numbers of Start.
     fn numbers(&self) -> Numbers
         ensures { λ r. ⌜ r ≡ meaning (now (self .entry)) .numbers ⌝ };
 
+    /// The view that is open.
     fn view(&self) -> u32
         ensures { λ r. ⌜ r ≡ meaning (now (self .entry)) .view ⌝ };
 
+    /// The first vote, if it is cast.
     fn first(&self) -> Option<Name>
         ensures { λ r. ⌜ r ≡ meaning (now (self .entry)) .first ⌝ };
 
+    /// The second vote.
     fn second(&self) -> SecondVote
         ensures { λ r. ⌜ r ≡ meaning (now (self .entry)) .second ⌝ };
 

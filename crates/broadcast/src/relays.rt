@@ -5,7 +5,7 @@ ghost use Rattle.std.specs.declared.option.Option.the-variants.{None};
 ghost use Rattle.model.specs.Questions.{first-no};
 ghost use Rattle.model.specs.Ledgers.{under};
 ghost use Rattle.model.specs.Broadcasts.{ledger, entered, hear-questions};
-ghost use Rattle.model.specs.Makes.{relay-fits, relay-free, relay-hears};
+ghost use Rattle.model.specs.Makes.{relay-fits, relay-free, relay-hears, room, suits};
 ghost use Rattle.broadcast.specs.Relays.{relay, held};
 use crate::Broadcast;
 use crate::Observe;
@@ -36,8 +36,8 @@ impl Relayed {
     }
 
     /// Whether mask and name fit: a leader hears one station for its own first vote, any other station a quorum.
-    fn fits(&self, grade: Grade, name: Name, mask: u32) -> bool
-        ensures { λ r. ⌜ r ≡ relay-fits (relay (now (self .entry))) grade name mask ⌝ }
+    fn fits(&self, name: Name, mask: u32) -> bool
+        ensures { λ r. ⌜ r ≡ suits (relay (now (self .entry))) name mask ⌝ }
     {
         if self.numbers.leads(self.view) {
             self.numbers.only_station(mask).is_some() && is_entry(self.first, name)
@@ -47,8 +47,8 @@ impl Relayed {
     }
 
     /// Whether the places are free: a leader's for the station, any other station's whole ledger.
-    fn is_free(&self, grade: Grade, name: Name, mask: u32) -> bool
-        ensures { λ r. ⌜ r ≡ relay-free (relay (now (self .entry))) grade name mask ⌝ }
+    fn is_free(&self, grade: Grade, mask: u32) -> bool
+        ensures { λ r. ⌜ r ≡ room (relay (now (self .entry))) grade mask ⌝ }
     {
         let held = self.held(grade);
         if self.numbers.leads(self.view) {
@@ -103,10 +103,10 @@ pub impl Observe for Relayed as RelayedObserve {
     }
 
     fn refusal(&self, grade: Grade, name: Name, mask: u32) -> Option<Refusal> {
-        if !self.fits(grade, name, mask) {
+        if !self.fits(name, mask) {
             return Some(Refusal::DoesNotFit);
         }
-        if !self.is_free(grade, name, mask) {
+        if !self.is_free(grade, mask) {
             return Some(Refusal::AlreadyEntered);
         }
         None

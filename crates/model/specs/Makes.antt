@@ -26,11 +26,17 @@ leading m = leads (m .numbers) (m .view)
 
 -- Relayed: the leader hears one station at a time, for its own first vote; the others hear a quorum's mask, while the ledger is empty.
 -- All of the mask is entered, and a leader whose ledger first holds a quorum has that mask to send.
+abbrev pub suits : Meaning → Name → ℕ → Bool
+suits m x k = cond (leading m) (single (m .numbers) k && is x (m .first)) (quorum (m .numbers) k)
+
+abbrev pub room : Meaning → Grade → ℕ → Bool
+room m g k = cond (leading m) (clear k (ledger m g)) (vacant (ledger m g))
+
 abbrev pub relay-fits : Asking
-relay-fits m g x k = cond (leading m) (single (m .numbers) k && is x (m .first)) (quorum (m .numbers) k)
+relay-fits m g x k = suits m x k
 
 abbrev pub relay-free : Asking
-relay-free m g x k = cond (leading m) (clear k (ledger m g)) (vacant (ledger m g))
+relay-free m g x k = room m g k
 
 abbrev pub relay-sends : Meaning → Grade → Name → ℕ → Option ℕ
 relay-sends m g x k = cond (leading m && newly m g x k) (Some (under x (ledger (entered m g x k) g))) None
