@@ -8,8 +8,8 @@ use model::Numbers;
 use model::SecondVote;
 
 /// A broadcast in which the leader collects the voices and passes a quorum of them on: it keeps one whole proof for
-/// each grade. A leader's is under its own first vote.
-#[derive(Clone, Copy)]
+/// each grade. A leader's is under its own first vote. It is not copied, since a copy could vote again.
+#[derive(Drop)]
 pub struct Relayed {
     pub(crate) numbers: Numbers,
     pub(crate) view: u32,

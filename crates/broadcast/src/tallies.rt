@@ -18,8 +18,8 @@ use model::Numbers;
 use model::Refusal;
 use model::SecondVote;
 
-/// A broadcast that keeps a name for each station and grade.
-#[derive(Clone, Copy)]
+/// A broadcast that keeps a name for each station and grade. It is not copied, since a copy could vote again.
+#[derive(Drop)]
 pub struct AllToAll {
     numbers: Numbers,
     view: u32,
