@@ -1,7 +1,6 @@
 //! What holds of every broadcast, whatever its make.
 
-ghost use Rattle.model.specs.Questions.{Answered};
-ghost use Rattle.model.specs.Broadcasts.{Hears, hear-questions};
+ghost use Rattle.model.specs.Broadcasts.{Hears, Hear-answered};
 use crate::Broadcast;
 use model::Grade;
 use model::Name;
@@ -15,9 +14,8 @@ pub fn hear<B: Broadcast>(
     name: Name,
     mask: u32,
 ) -> Result<Option<u32>, Refusal>
-    ensures { λ r. ⌜ Answered (hear-questions (B·Observe .fits) (B·Observe .free) (B·Observe .meaning (now (cast .entry))) grade name mask)
-        (B·Observe .meaning (now (cast .entry))) (B·Observe .meaning (now (cast .exit)))
-        (λ send. Hears (B·Observe .meaning (now (cast .entry))) grade name mask send (B·Observe .meaning (now (cast .exit)))) r ⌝ }
+    ensures { λ r. ⌜ Hear-answered (B·Observe .fits) (B·Observe .free) Hears
+        (B·Observe .meaning (now (cast .entry))) grade name mask (B·Observe .meaning (now (cast .exit))) r ⌝ }
 {
     cast.hear(grade, name, mask)
 }

@@ -3,9 +3,10 @@
 ghost use mathlib.Core.Path.{_≡_};
 ghost use Rattle.std.specs.Options.{mapped};
 ghost use Rattle.model.specs.Refusals.{number};
-ghost use Rattle.model.specs.Questions.{Answered, first-no};
+ghost use Rattle.model.specs.Questions.{first-no};
 ghost use Rattle.model.specs.Ledgers.{is, under};
-ghost use Rattle.model.specs.Broadcasts.{Meaning, Asking, Hearing, Keeps, ledger, complete, opened, voted, closed, offer-questions, hear-questions};
+ghost use Rattle.model.specs.Broadcasts.{Meaning, Asking, Hearing, Keeps, ledger, complete, opened, closed};
+ghost use Rattle.model.specs.Broadcasts.{Offer-answered, Hear-answered, hear-questions};
 use model::Grade;
 use model::Name;
 use model::Numbers;
@@ -81,15 +82,12 @@ pub trait Broadcast: Observe + Sized {
 
     /// Casts the first vote.
     fn offer(&mut self, name: Name) -> Result<(), Refusal>
-        ensures { λ r. ⌜ Answered (offer-questions (Self·Observe .meaning (now (self .entry))))
-            (Self·Observe .meaning (now (self .entry))) (Self·Observe .meaning (now (self .exit)))
-            (λ _. Self·Observe .meaning (now (self .exit)) ≡ voted (Self·Observe .meaning (now (self .entry))) name) r ⌝ };
+        ensures { λ r. ⌜ Offer-answered (Self·Observe .meaning (now (self .entry))) name (Self·Observe .meaning (now (self .exit))) r ⌝ };
 
     /// Hears the stations of the mask for the name, and answers the mask to send, if there is one.
     fn hear(&mut self, grade: Grade, name: Name, mask: u32) -> Result<Option<u32>, Refusal>
-        ensures { λ r. ⌜ Answered (hear-questions (Self·Observe .fits) (Self·Observe .free) (Self·Observe .meaning (now (self .entry))) grade name mask)
-            (Self·Observe .meaning (now (self .entry))) (Self·Observe .meaning (now (self .exit)))
-            (λ send. hears (Self·Observe .meaning (now (self .entry))) grade name mask send (Self·Observe .meaning (now (self .exit)))) r ⌝ };
+        ensures { λ r. ⌜ Hear-answered (Self·Observe .fits) (Self·Observe .free) hears
+            (Self·Observe .meaning (now (self .entry))) grade name mask (Self·Observe .meaning (now (self .exit))) r ⌝ };
 
     /// Shuts a waiting second vote.
     fn shut(&mut self)

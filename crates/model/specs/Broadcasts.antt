@@ -7,14 +7,16 @@ use Prim.Native.Nat.{ℕ}
 use Rattle.std.specs.Options.{isSome}
 use Rattle.std.specs.declared.option.Option.{Option}
 use Rattle.std.specs.declared.option.Option.the-variants.{Some, None}
+use Rattle.std.specs.declared.result.Result.{Result}
 use Rattle.model.specs.declared.names.Name.{Name}
 use Rattle.model.specs.declared.numbers.Numbers.{Numbers}
+use Rattle.model.specs.declared.refusals.Refusal.{Refusal}
 use Rattle.model.specs.declared.votes.Grade.{Grade}
 use Rattle.model.specs.declared.votes.Grade.the-variants.{One, Two}
 use Rattle.model.specs.declared.votes.SecondVote.{SecondVote}
 use Rattle.model.specs.declared.votes.SecondVote.the-variants.{Waiting, Given}
 use Rattle.model.specs.declared.votes.Event.the-variants.{HeardQuorum, Shutting}
-use Rattle.model.specs.Questions.{Question}
+use Rattle.model.specs.Questions.{Question, Answered}
 use Rattle.model.specs.Quorums.{has, Quorum, first-quorum}
 use Rattle.model.specs.Votes.{after}
 use Rattle.model.specs.Ledgers.{Ledger, empty, at, under, enter, full}
@@ -47,6 +49,9 @@ offer-questions m = (15, not (isSome (m .first))) ∷ []
 abbrev pub voted : Meaning → Name → Meaning
 voted m x = record { numbers = m .numbers; view = m .view; first = Some x; second = m .second; one = m .one; two = m .two }
 
+abbrev pub Offer-answered : Meaning → Name → Meaning → Result (Unit {0}) Refusal → Type 0
+Offer-answered m x m′ = Answered (offer-questions m) m m′ (λ _. m′ ≡ voted m x)
+
 -- Shut: a waiting second vote becomes shut.
 abbrev pub closed : Meaning → Meaning
 closed m = record { numbers = m .numbers; view = m .view; first = m .first; second = after (m .second) Shutting; one = m .one; two = m .two }
@@ -61,6 +66,9 @@ hear-questions fits free m g x k = (13, fits m g x k) ∷ (14, free m g x k) ∷
 -- a make's own relation of an accepted Hear, to the mask to send and the meaning after it
 abbrev pub Hearing : Type 1
 Hearing = Meaning → Grade → Name → ℕ → Option ℕ → Meaning → Type 0
+
+abbrev pub Hear-answered : Asking → Asking → Hearing → Meaning → Grade → Name → ℕ → Meaning → Result (Option ℕ) Refusal → Type 0
+Hear-answered fits free hears m g x k m′ = Answered (hear-questions fits free m g x k) m m′ (λ send. hears m g x k send m′)
 
 -- The clauses of an accepted Hear, in every make.
 pub record Hears (m : Meaning) (g : Grade) (x : Name) (k : ℕ) (send : Option ℕ) (m′ : Meaning) : Type 0 where
