@@ -20,11 +20,12 @@ use Rattle.model.specs.Names.{same}
 use Rattle.model.specs.Questions.{first-no}
 use Rattle.model.specs.Quorums.{stations, leads, within, quorum, single}
 use Rattle.model.specs.Ledgers.{Ledger, empty, is, under, enter, clear, vacant}
-use Rattle.model.specs.Broadcasts.{Meaning, ledger, hear-questions}
+use Rattle.model.specs.Broadcasts.{Meaning, ledger, complete, hear-questions}
 use Rattle.model.specs.Makes.{relay-fits, relay-free}
 use Rattle.model.proofs.Ledgers.{enter-none, enter-twice, under-enter, clear-enter, vacant-enter}
 use Rattle.model.proofs.Hearings.{accepted}
 use Rattle.model.proofs.Makes.{same-self}
+use Rattle.model.proofs.Meetings.{none-quorum}
 use Rattle.broadcast.specs.Supports.{supported, owned}
 use Rattle.broadcast.specs.Relays.{relay, held}
 use Rattle.broadcast.specs.declared.support.Support.{Support}
@@ -73,6 +74,14 @@ module _ (b : Relayed) where
   pub vacant-of : (g : Grade) → vacant (ledger (relay b) g) ≡ eqb (held b g .mask) 0
   vacant-of g =
       ap vacant (ledger-held g) ∙ vacant-enter (held b g .name) 28 (held b g .mask) (below (b .numbers) (held b g .mask) (held-within g))
+
+  -- the view is complete for the name of the second support, where that holds a quorum, and for no other
+  pub completed-by : (x : Name) → complete (relay b) x ≡ cond (same x (b .two .name)) (quorum (b .numbers) (b .two .mask)) false
+  completed-by x = ap (quorum (b .numbers)) (mask-of Two x) ∙ go (same x (b .two .name))
+    where
+      go : (c : Bool) → quorum (b .numbers) (cond c (b .two .mask) 0) ≡ cond c (quorum (b .numbers) (b .two .mask)) false
+      go true = refl
+      go false = none-quorum (b .numbers)
 
   mask-within : (g : Grade) (x : Name) → within (b .numbers) (under x (ledger (relay b) g)) ≡ true
   mask-within g x = ap (within (b .numbers)) (mask-of g x) ∙ go (same x (held b g .name))

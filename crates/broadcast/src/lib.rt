@@ -5,7 +5,7 @@ ghost use Rattle.std.specs.Options.{mapped};
 ghost use Rattle.model.specs.Refusals.{number};
 ghost use Rattle.model.specs.Questions.{first-no};
 ghost use Rattle.model.specs.Ledgers.{is, under};
-ghost use Rattle.model.specs.Broadcasts.{Meaning, Asking, Hearing, Keeps, ledger, complete, opened, closed};
+ghost use Rattle.model.specs.Broadcasts.{Meaning, Asking, Hearing, Keeps, ledger, complete, Completed, opened, closed};
 ghost use Rattle.model.specs.Broadcasts.{Offer-answered, Hear-answered, hear-questions};
 use model::Grade;
 use model::Name;
@@ -56,6 +56,10 @@ pub trait Observe {
     /// Why `hear` would be refused, if it would.
     fn refusal(&self, grade: Grade, name: Name, mask: u32) -> Option<Refusal>
         ensures { λ r. ⌜ mapped number r ≡ first-no (hear-questions fits free (meaning (now (self .entry))) grade name mask) ⌝ };
+
+    /// The name for which the view is complete, if it is for one.
+    fn completed(&self) -> Option<Name>
+        ensures { λ r. ⌜ Completed (meaning (now (self .entry))) r ⌝ };
 
     /// Whether the view is complete for the name.
     fn is_complete(&self, name: Name) -> bool

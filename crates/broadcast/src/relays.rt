@@ -102,6 +102,14 @@ pub impl Observe for Relayed as RelayedObserve {
         if name.is(held.name) { held.mask } else { 0 }
     }
 
+    fn completed(&self) -> Option<Name> {
+        if self.numbers.holds_quorum(self.two.mask) {
+            Some(self.two.name)
+        } else {
+            None
+        }
+    }
+
     fn refusal(&self, grade: Grade, name: Name, mask: u32) -> Option<Refusal> {
         if !self.fits(name, mask) {
             return Some(Refusal::DoesNotFit);

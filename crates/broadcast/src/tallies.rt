@@ -99,6 +99,17 @@ pub impl Observe for AllToAll as AllToAllObserve {
         }
     }
 
+    fn completed(&self) -> Option<Name> {
+        for i in 0..28 {
+            if let Some(name) = self.two[i] {
+                if self.numbers.holds_quorum(mask_under(&self.two, name)) {
+                    return Some(name);
+                }
+            }
+        }
+        None
+    }
+
     fn refusal(&self, grade: Grade, _name: Name, mask: u32) -> Option<Refusal> {
         let Some(station) = self.numbers.only_station(mask) else {
             return Some(Refusal::DoesNotFit);

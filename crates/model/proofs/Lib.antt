@@ -4,3 +4,4 @@ pub mod Ledgers
 pub mod Stations
 pub mod Hearings
 pub mod Makes
+pub mod Completions

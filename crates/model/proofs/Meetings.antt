@@ -99,6 +99,14 @@ correct s liars few =
 members : (s : Numbers) (m i : ℕ) → within s m ≡ true → has m i ≡ true → i < stations s
 members s m i w h = has-below (stations s) m i (ltb-true m (2 ^ stations s) w) h
 
+-- nobody is no quorum
+pub none-quorum : (s : Numbers) → quorum s 0 ≡ false
+none-quorum s = go (quorum s 0) refl
+  where
+    go : (b : Bool) → quorum s 0 ≡ b → quorum s 0 ≡ false
+    go false e = e
+    go true e = absurd (omega (arith, many s 0 e, ones-le 0 0 (omega arith)))
+
 -- all go by the one number
 alike : (s t : Numbers) → Alike s t
     → ((m : ℕ) → quorum s m ≡ quorum t m) × ((m : ℕ) → Few s m → Few t m) × ((v : ℕ) → leader s v ≡ leader t v) × (stations s ≡ stations t)

@@ -22,7 +22,7 @@ use Rattle.model.proofs.Masks.{has-up, has-low, has-none}
 use Rattle.model.proofs.Meetings.{meet, nobody-lies}
 use Rattle.model.proofs.Ledgers.{some-none, length-enter}
 
-masks : (x : Name) (l : Ledger) (i : ℕ) → has (under x l) i ≡ is x (at l i)
+pub masks : (x : Name) (l : Ledger) (i : ℕ) → has (under x l) i ≡ is x (at l i)
 unfolding under
 masks x [] i = has-none i
 masks x (e ∷ es) zero =

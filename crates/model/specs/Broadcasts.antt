@@ -1,5 +1,5 @@
 -- What one view's broadcast means, what its calls do, and the clauses that every broadcast keeps. Assumes nothing.
-use mathlib.Core.Bool.{Bool, true, cond, not}
+use mathlib.Core.Bool.{Bool, true, false, cond, not}
 use mathlib.Core.List.{List, [], _∷_}
 use mathlib.Core.Logic.{_⊎_}
 use mathlib.Core.Path.{_≡_}
@@ -37,6 +37,11 @@ ledger m Two = m .two
 -- the view is complete for the name: ledger 2 holds a quorum under it
 abbrev pub complete : Meaning → Name → Bool
 complete m x = full (m .numbers) (m .two) x
+
+-- for which name the view is complete, if it is for one
+abbrev pub Completed : Meaning → Option Name → Type 0
+Completed m None = (x : Name) → complete m x ≡ false
+Completed m (Some x) = complete m x ≡ true
 
 -- Open: a view, no first vote, a waiting second vote and empty ledgers.
 abbrev pub opened : Numbers → ℕ → Meaning

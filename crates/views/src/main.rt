@@ -61,6 +61,17 @@ fn print_second<B: Observe>(rt: &LibcRuntime, cast: &B) -> io::Result<()> {
     }
 }
 
+fn print_completed<B: Observe>(rt: &LibcRuntime, cast: &B) -> io::Result<()> {
+    let view = cast.view();
+    match cast.completed() {
+        Some(name) => {
+            let block = called(name);
+            println!(rt, "  view {view} left, complete for {block}")
+        }
+        None => println!(rt, "  view {view} left, not complete"),
+    }
+}
+
 fn offer<B: Broadcast>(rt: &LibcRuntime, cast: &mut B, name: Name) -> io::Result<()> {
     let block = called(name);
     match cast.offer(name) {
@@ -128,6 +139,7 @@ fn take<B: Broadcast>(rt: &LibcRuntime, cast: &mut B, step: Step) -> io::Result<
             print_second(rt, cast)
         }
         Step::Open(view) => {
+            print_completed(rt, cast)?;
             cast.open(view);
             let leader = cast.numbers().leader(view);
             print!(rt, "  view {view}, led by station {leader}: ")?;
