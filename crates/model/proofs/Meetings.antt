@@ -9,10 +9,10 @@ use lib.Bits.{bitAnd, and-lt}
 use lib.Count.{ones, ones-step, ones-le}
 use lib.Dec.{eqb, leb, ltb}
 use Rattle.std.proofs.shelf.Bits.{pow-pos}
-use Rattle.std.proofs.shelf.Tests.{and-parts, and-from, leb-true, le-leb, ltb-true, lt-ltb, eqb-true}
+use Rattle.std.proofs.shelf.Tests.{both-ways, and-parts, and-from, leb-true, le-leb, ltb-true, lt-ltb, eqb-true}
 use Rattle.model.specs.declared.numbers.Numbers.{Numbers}
-use Rattle.model.specs.Quorums.{stations, leader, has, within, weight, needed, tolerated, quorum, Quorum, Few, Correct, honest, Alike, Quorum-laws}
-use Rattle.model.proofs.Masks.{half-lt, half-and, low-and, has-up, has-lowest, has-low, has-both, has-below}
+use Rattle.model.specs.Quorums.{stations, leader, has, within, weight, needed, tolerated, quorum, Quorum, Few, Correct, honest, Alike, Quorum-laws, Mask-laws}
+use Rattle.model.proofs.Masks.{half-lt, half-and, low-and, has-up, has-lowest, has-low, has-none, has-both, has-below}
 
 -- what a quorum is
 many : (s : Numbers) (m : ℕ) → Quorum s m → needed s ≤ weight s m
@@ -99,14 +99,6 @@ correct s liars few =
 members : (s : Numbers) (m i : ℕ) → within s m ≡ true → has m i ≡ true → i < stations s
 members s m i w h = has-below (stations s) m i (ltb-true m (2 ^ stations s) w) h
 
--- nobody is no quorum
-pub none-quorum : (s : Numbers) → quorum s 0 ≡ false
-none-quorum s = go (quorum s 0) refl
-  where
-    go : (b : Bool) → quorum s 0 ≡ b → quorum s 0 ≡ false
-    go false e = e
-    go true e = absurd (omega (arith, many s 0 e, ones-le 0 0 (omega arith)))
-
 -- all go by the one number
 alike : (s t : Numbers) → Alike s t
     → ((m : ℕ) → quorum s m ≡ quorum t m) × ((m : ℕ) → Few s m → Few t m) × ((v : ℕ) → leader s v ≡ leader t v) × (stations s ≡ stations t)
@@ -119,5 +111,16 @@ alike s t e =
 pub nobody-lies : (s : Numbers) → Few s 0
 nobody-lies s = (lt-ltb 0 (2 ^ stations s) (pow-pos (stations s)), omega (arith, ones-le 0 0 (omega arith)))
 
+-- nobody is no quorum: it has no station to share
+pub none-quorum : (s : Numbers) → quorum s 0 ≡ false
+none-quorum s = go (quorum s 0) refl
+  where
+    go : (b : Bool) → quorum s 0 ≡ b → quorum s 0 ≡ false
+    go false e = e
+    go true e = let t = meet s 0 0 0 (nobody-lies s) e e in absurd (both-ways (has 0 (t .0)) (has-none (t .0)) (t .2))
+
 pub quorum-laws : Quorum-laws
-quorum-laws = record { share = share; meet = meet; alike = alike; members = members; correct = correct; honestly = honestly; enough = enough }
+quorum-laws = record { share = share; meet = meet; correct = correct; enough = enough }
+
+pub mask-laws : Mask-laws
+mask-laws = record { members = members; honestly = honestly; alike = alike }

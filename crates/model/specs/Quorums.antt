@@ -75,20 +75,19 @@ honest s liars = 2 ^ stations s - 1 - liars
 abbrev pub Alike : Numbers → Numbers → Type 0
 Alike s t = s .f ≡ t .f
 
--- All that later proofs may use of quorums: any two of them share a station that does not lie,
--- and the stations that do not lie are one.
+-- All that later proofs may use of quorums.
 pub record Quorum-laws : Type 0 where
-  -- what two quorums share is more than may lie
+  -- Any two quorums share more than may lie, hence a station that does not.
   pub share : (s : Numbers) (a b : ℕ) → Quorum s a → Quorum s b → tolerated s < weight s (bitAnd a b)
   pub meet : (s : Numbers) (liars a b : ℕ) → Few s liars → Quorum s a → Quorum s b
       → (i : ℕ) × (Correct s liars i) × (has a i ≡ true) × (has b i ≡ true)
-  -- stations of one start have the same quorums, leaders and bounds
+  -- The stations that do not lie are a quorum, and so is every mask that has them all.
+  pub correct : (s : Numbers) (liars : ℕ) → Few s liars → Quorum s (honest s liars)
+  pub enough : (s : Numbers) (liars m : ℕ) → Few s liars → within s m ≡ true → ((i : ℕ) → Correct s liars i → has m i ≡ true) → Quorum s m
+
+-- What masks are, station by station, and that stations of one start go by the same.
+pub record Mask-laws : Type 0 where
+  pub members : (s : Numbers) (m i : ℕ) → within s m ≡ true → has m i ≡ true → i < stations s
+  pub honestly : (s : Numbers) (liars : ℕ) → Few s liars → (i : ℕ) → i < stations s → has (honest s liars) i ≡ not (has liars i)
   pub alike : (s t : Numbers) → Alike s t
       → ((m : ℕ) → quorum s m ≡ quorum t m) × ((m : ℕ) → Few s m → Few t m) × ((v : ℕ) → leader s v ≡ leader t v) × (stations s ≡ stations t)
-  -- who is in a mask of stations is a station
-  pub members : (s : Numbers) (m i : ℕ) → within s m ≡ true → has m i ≡ true → i < stations s
-  pub correct : (s : Numbers) (liars : ℕ) → Few s liars → Quorum s (honest s liars)
-  -- the honest mask, station by station
-  pub honestly : (s : Numbers) (liars : ℕ) → Few s liars → (i : ℕ) → i < stations s → has (honest s liars) i ≡ not (has liars i)
-  -- every mask that has them all is a quorum as well
-  pub enough : (s : Numbers) (liars m : ℕ) → Few s liars → within s m ≡ true → ((i : ℕ) → Correct s liars i → has m i ≡ true) → Quorum s m

@@ -1,11 +1,13 @@
 //! Theorems on the rules, each the contract of a function that does nothing else.
 
 ghost use Rattle.model.specs.Laws.{All-enter, First-quorum-gives, Station-by-station};
-ghost use Rattle.model.specs.Quorums.{Quorum-laws};
+ghost use Rattle.model.specs.Quorums.{Mask-laws, Quorum-laws};
 
-/// Any two quorums share a station that does not lie, and the stations that do not lie are a quorum.
+/// Any two quorums share a station that does not lie, and the stations that do not lie are a quorum; what masks are,
+/// station by station.
 pub fn quorums_stand()
-    ensures { λ _. ⌜ Quorum-laws ⌝ }
+    ensures quorums { λ _. ⌜ Quorum-laws ⌝ }
+    ensures masks { λ _. ⌜ Mask-laws ⌝ }
 {}
 
 /// What masks and ledgers are, station by station; which Hear gives the second vote; that all of a mask is entered.
