@@ -2,3 +2,9 @@ pub mod Names
 pub mod Blocks
 pub mod Refusals
 pub mod Questions
+pub mod Quorums
+pub mod Votes
+pub mod Ledgers
+pub mod Broadcasts
+pub mod Makes
+pub mod Laws

@@ -24,3 +24,8 @@ first-no (q ∷ qs) = cond (q .1) (first-no qs) (Some (q .0))
 abbrev pub Answered : {W T : Type 0} → List Question → W → W → (T → Type 0) → Result T Refusal → Type 0
 Answered questions old new done (Ok x) = (first-no questions ≡ None) × done x
 Answered questions old new done (Err e) = (first-no questions ≡ Some (number e)) × (new ≡ old)
+
+-- The same of a call that touches nothing.
+abbrev pub Judged : {T : Type 0} → List Question → (T → Type 0) → Result T Refusal → Type 0
+Judged questions done (Ok x) = (first-no questions ≡ None) × done x
+Judged questions done (Err e) = first-no questions ≡ Some (number e)

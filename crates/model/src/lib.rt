@@ -1,9 +1,13 @@
-//! What all layers share: names, blocks, statements and refusals.
+//! What all layers share: names, blocks, statements and refusals, and the numbers, quorums and votes of one view.
 
 pub mod blocks;
 pub mod names;
+pub mod numbers;
+pub mod quorums;
 pub mod refusals;
 pub mod statements;
+pub mod theorems;
+pub mod votes;
 
 pub use blocks::BackboneBlock;
 pub use blocks::Block;
@@ -12,9 +16,13 @@ pub use blocks::Parent;
 pub use blocks::References;
 pub use blocks::SideBlock;
 pub use names::Name;
+pub use numbers::Numbers;
 pub use refusals::Refusal;
 pub use statements::Certificate;
 pub use statements::Claim;
 pub use statements::Offer;
 pub use statements::OfferClaim;
 pub use statements::Voices;
+pub use votes::Event;
+pub use votes::Grade;
+pub use votes::SecondVote;

@@ -1,0 +1,3 @@
+pub mod Tallies
+pub mod Supports
+pub mod Relays

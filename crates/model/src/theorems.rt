@@ -1,0 +1,18 @@
+//! Theorems on the rules, each the contract of a function that does nothing else.
+
+ghost use Rattle.model.specs.Laws.{All-enter, First-quorum-gives, Station-by-station};
+ghost use Rattle.model.specs.Quorums.{Mask-laws, Quorum-laws};
+
+/// Any two quorums share a station that does not lie, and the stations that do not lie are a quorum; what masks are,
+/// station by station.
+pub fn quorums_stand()
+    ensures quorums { λ _. ⌜ Quorum-laws ⌝ }
+    ensures masks { λ _. ⌜ Mask-laws ⌝ }
+{}
+
+/// What masks and ledgers are, station by station; which Hear gives the second vote; that all of a mask is entered.
+pub fn ledgers_stand()
+    ensures stations { λ _. ⌜ Station-by-station ⌝ }
+    ensures gives { λ _. ⌜ First-quorum-gives ⌝ }
+    ensures enters { λ _. ⌜ All-enter ⌝ }
+{}
