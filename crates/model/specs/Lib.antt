@@ -2,3 +2,8 @@ pub mod Names
 pub mod Blocks
 pub mod Refusals
 pub mod Questions
+pub mod Books
+pub mod Orders
+pub mod Listing
+pub mod Chains
+pub mod Lookups

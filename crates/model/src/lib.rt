@@ -1,10 +1,13 @@
 //! What all layers share: names, blocks, statements and refusals.
 
+pub mod answers;
 pub mod blocks;
 pub mod names;
 pub mod refusals;
 pub mod statements;
 
+pub use answers::Added;
+pub use answers::Binding;
 pub use blocks::BackboneBlock;
 pub use blocks::Block;
 pub use blocks::Entry;

@@ -1,0 +1,4 @@
+pub mod Naming
+pub mod Contents
+pub mod OrderLaws
+pub mod OneListing
