@@ -37,20 +37,20 @@ module _ {X : Type 0} where
       let le : k ≤ length (take n xs) = omega arith in
       let long = length-inserted (take n xs) k v le in
       same-lists (take (n + 1) (set ys k v)) (inserted (take n xs) k v)
-        (simp (length-take, length-set) (omega (arith, o .long)))
-        (λ j d m.
-            let m′ : j < n + 1 = omega (arith, length-take (n + 1) (set ys k v)) in
-            getD-take (n + 1) (set ys k v) j d m′ ∙ elim (cases-order j k) [
-              | inl e ↦
-                  ap (λ i. getD (set ys k v) i d) e ∙ getD-set-same ys k v d (omega (arith, o .long))
-                  ∙ sym (ap (λ i. getD (inserted (take n xs) k v) i d) e ∙ getD-inserted-at (take n xs) k v d le)
-              | inr (inl lt) ↦
-                  let ne : j ≢ k = omega arith in
-                  getD-set-other ys k j v d ne ∙ o .below j d (omega arith) ∙ sym (getD-inserted-below (take n xs) k v d j lt le ∙ getD-take n xs j d (omega arith))
-              | inr (inr gt) ↦
-                  let ne : j ≢ k = omega arith in
-                  let i : ℕ = j - 1 in
-                  let e : i + 1 ≡ j = omega arith in
-                  getD-set-other ys k j v d ne ∙ ap (λ x. getD ys x d) (sym e) ∙ o .moved i d (omega arith) (omega arith)
-                  ∙ sym (ap (λ x. getD (inserted (take n xs) k v) x d) (sym e) ∙ getD-inserted-above (take n xs) k v d i (omega arith) le ∙ getD-take n xs i d (omega arith))
-            ])
+      (simp (length-take, length-set) (omega (arith, o .long)))
+      (λ j d m.
+      let m′ : j < n + 1 = omega (arith, length-take (n + 1) (set ys k v)) in
+      getD-take (n + 1) (set ys k v) j d m′ ∙ elim (cases-order j k) [
+        | inl e ↦
+            ap (λ i. getD (set ys k v) i d) e ∙ getD-set-same ys k v d (omega (arith, o .long))
+            ∙ sym (ap (λ i. getD (inserted (take n xs) k v) i d) e ∙ getD-inserted-at (take n xs) k v d le)
+        | inr (inl lt) ↦
+            let ne : j ≢ k = omega arith in
+            getD-set-other ys k j v d ne ∙ o .below j d (omega arith) ∙ sym (getD-inserted-below (take n xs) k v d j lt le ∙ getD-take n xs j d (omega arith))
+        | inr (inr gt) ↦
+            let ne : j ≢ k = omega arith in
+            let i : ℕ = j - 1 in
+            let e : i + 1 ≡ j = omega arith in
+            getD-set-other ys k j v d ne ∙ ap (λ x. getD ys x d) (sym e) ∙ o .moved i d (omega arith) (omega arith)
+            ∙ sym (ap (λ x. getD (inserted (take n xs) k v) x d) (sym e) ∙ getD-inserted-above (take n xs) k v d i (omega arith) le ∙ getD-take n xs i d (omega arith))
+      ])

@@ -4,6 +4,10 @@ ghost use mathlib.Core.Path.{_≡_};
 ghost use Prim.Native.Nat.{ℕ, _<_, _≤_};
 ghost use lib.ListN.{length};
 ghost use Rattle.std.specs.Finite.{nth};
+ghost use Rattle.std.specs.Options.{Cases};
+ghost use Rattle.std.specs.declared.option.Option.the-variants.{Some};
+ghost use Rattle.model.specs.declared.blocks.SideBlock.{SideBlock as SideT};
+ghost use Rattle.model.specs.declared.blocks.Block.the-variants.{Side};
 ghost use Rattle.model.specs.Blocks.{referred};
 ghost use Rattle.model.specs.Books.{is-side, of-view, sides-held, parent-held, named-held};
 ghost use Rattle.book.specs.Places.{Sound, Placed, find};
@@ -12,6 +16,7 @@ use model::Block;
 use model::Name;
 use model::Parent;
 use model::References;
+use model::SideBlock;
 
 /// The blocks of a book in their places, with the index of places sorted by name. No answer of the book depends on a place;
 /// a reader that marks blocks does it by their places.
@@ -35,14 +40,16 @@ impl<'a> Shelf<'a> {
         self.blocks.len()
     }
 
-    /// The block at that place.
-    pub fn block_at(self, place: usize) -> Option<Block>
-        ensures { λ r. ⌜ r ≡ nth (now (self .entry .blocks)) place ⌝ }
+    /// The side block at that place, if one stands there.
+    pub fn side_at(self, place: usize) -> Option<SideBlock>
+        ensures { λ r. ⌜ Cases r ((s : SideT) → nth (now (self .entry .blocks)) place ≡ Some (Side s) → ⊥) (λ s. nth (now (self .entry .blocks)) place ≡ Some (Side s)) ⌝ }
     {
-        if place < self.blocks.len() {
-            Some(self.blocks[place])
-        } else {
-            None
+        if place >= self.blocks.len() {
+            return None;
+        }
+        match &self.blocks[place] {
+            Block::Side(side) => Some(*side),
+            Block::Backbone(_) => None,
         }
     }
 

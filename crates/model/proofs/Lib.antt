@@ -2,3 +2,4 @@ pub mod Naming
 pub mod Contents
 pub mod OrderLaws
 pub mod OneListing
+pub mod Worked

@@ -7,3 +7,4 @@ pub mod Orders
 pub mod Listing
 pub mod Chains
 pub mod Lookups
+pub mod Examples

@@ -47,7 +47,7 @@ module _ {X : Type 0} where
         long = length-set ys (i - 1) y ∙ s .long;
         moved = λ k d m. ⊎-elim
             (λ (q : k ≡ i - 1). let q' : i ≡ k + 1 = omega arith in let w : i - 1 < length ys = omega (arith, s .long) in let w' : i < length ys = omega (arith, s .long) in
-              ap (λ j. getD (set ys (i - 1) y) j d) q ∙ getD-set-same ys (i - 1) y d w ∙ getD-read ys i y w' e d ∙ s .still i d (omega arith) ∙ ap (λ j. getD xs j d) q')
+            ap (λ j. getD (set ys (i - 1) y) j d) q ∙ getD-set-same ys (i - 1) y d w ∙ getD-read ys i y w' e d ∙ s .still i d (omega arith) ∙ ap (λ j. getD xs j d) q')
             (λ (q : k ≡ i - 1 → ⊥). getD-set-other ys (i - 1) k y d q ∙ s .moved k d (omega arith))
             (cases-eq k (i - 1));
         still = λ k d m. let q : k ≡ i - 1 → ⊥ = λ z. omega arith in getD-set-other ys (i - 1) k y d q ∙ s .still k d (omega arith);
@@ -57,15 +57,15 @@ module _ {X : Type 0} where
   shifted-all xs ys n s h l =
       let e : take (n - 1) (drop 1 xs ++ []) ≡ rest (take n xs) = rest-rotated xs n [] (λ z. omega arith) l in
       same-lists (take (n - 1) ys) (take (n - 1) (drop 1 xs ++ []))
-        (simp (length-take, length-append, length-drop) (omega (arith, s .long)))
-        (λ k d m. let m' : k < n - 1 = omega (arith, length-take (n - 1) ys) in
-            let w : k < length (drop 1 xs) = simp length-drop (omega arith) in
-            let v : 1 + k ≡ k + 1 = omega arith in
-            getD-take (n - 1) ys k d m' ∙ s .moved k d (omega arith) ∙ ap (λ j. getD xs j d) (sym v) ∙ sym (getD-drop 1 xs k d) ∙ sym (getD-append-left (drop 1 xs) [] d k w) ∙ sym (getD-take (n - 1) (drop 1 xs ++ []) k d m'))
+      (simp (length-take, length-append, length-drop) (omega (arith, s .long)))
+      (λ k d m. let m' : k < n - 1 = omega (arith, length-take (n - 1) ys) in
+      let w : k < length (drop 1 xs) = simp length-drop (omega arith) in
+      let v : 1 + k ≡ k + 1 = omega arith in
+      getD-take (n - 1) ys k d m' ∙ s .moved k d (omega arith) ∙ ap (λ j. getD xs j d) (sym v) ∙ sym (getD-drop 1 xs k d) ∙ sym (getD-append-left (drop 1 xs) [] d k w) ∙ sym (getD-take (n - 1) (drop 1 xs ++ []) k d m'))
       ∙ e
 
   pub shifted-beyond : (xs ys : List X) (n m : ℕ) → Shifted xs ys n → n ≤ m + 1 → drop m ys ≡ drop m xs
   shifted-beyond xs ys n m s h =
       same-lists (drop m ys) (drop m xs)
-        (simp length-drop (omega (arith, s .long)))
-        (λ k d _. getD-drop m ys k d ∙ s .still (m + k) d (omega arith) ∙ sym (getD-drop m xs k d))
+      (simp length-drop (omega (arith, s .long)))
+      (λ k d _. getD-drop m ys k d ∙ s .still (m + k) d (omega arith) ∙ sym (getD-drop m xs k d))

@@ -51,11 +51,16 @@ ghost-self c =
     let n : length bs ≡ b .rows .len = omega (arith, length-take (b .rows .len) (b .rows .blocks .now), b .within) in
     let p = indexed-push bs ix ok (c .args .block) k (s .0) (s .1) (s .2) in
     let at = e .index ∙ ap (inserted ix k) (sym n) in
-    let q = subst (λ l. Indexed l (take (c .insert .last .self .len) (c .insert .last .self .index .now))) (sym (e .blocks)) (subst (Indexed (bs ++ (c .args .block ∷ []))) (sym at) p) in
-    ( omega (arith, e .len, e .places)
-    , ( omega (arith, e .len, e .index-places, length-take (b .rows .len) (b .rows .index .now))
-      , ( omega (arith, e .len)
-        , (subst Sound (sym (e .blocks)) (sound-push bs (c .args .block) (b .sound) (c .pre .joins)), (q .ranged, (q .rises, (q .covers, tt)))) ) ) )
+    let q = subst (λ l. Indexed l (take (c .insert .last .self .len) (c .insert .last .self .index .now))) (sym (e .blocks)) (subst (Indexed (bs ++ (c .args .block ∷ []))) (sym at) p) in (
+      omega (arith, e .len, e .places),
+      (
+        omega (arith, e .len, e .index-places, length-take (b .rows .len) (b .rows .index .now)),
+        (
+          omega (arith, e .len),
+          (subst Sound (sym (e .blocks)) (sound-push bs (c .args .block) (b .sound) (c .pre .joins)), (q .ranged, (q .rises, (q .covers, tt)))),
+        ),
+      ),
+    )
 
 pub returns-in-Err : need.returns-in-Err
 returns-in-Err c =
