@@ -25,9 +25,6 @@ use rows::Rows;
 use shelf::Shelf;
 
 impl<'a> Book<'a> {
-    /// The most blocks that a book holds.
-    pub const MOST: usize = 4096;
-
     /// An empty book over these places: for each block one of `blocks`, and one of `index`, which finds it by name.
     pub fn over(blocks: &'a mut [Block], index: &'a mut [u16]) -> Book<'a>
         ensures holds { λ r. ⌜ ((n : NameT) → book-of r n ≡ None) ⌝ }
@@ -59,7 +56,7 @@ impl<'a> Book<'a> {
     pub fn len(&self) -> usize
         ensures { λ r. ⌜ r ≡ count (now (self .entry)) ⌝ }
     {
-        self.rows.len
+        self.shelf().len()
     }
 
     /// Whether there is a place for one more block.

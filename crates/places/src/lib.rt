@@ -25,7 +25,7 @@ impl<'a, T: Copy, const N: usize> Bounded<'a, T, N> {
     pub fn len(&self) -> usize
         ensures { λ r. ⌜ r ≡ length (held (now (self .entry))) ⌝ }
     {
-        self.len
+        self.as_slice().len()
     }
 
     /// Whether there is room for that many more.
