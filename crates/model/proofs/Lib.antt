@@ -5,3 +5,8 @@ pub mod Stations
 pub mod Hearings
 pub mod Makes
 pub mod Completions
+pub mod Naming
+pub mod Contents
+pub mod OrderLaws
+pub mod OneListing
+pub mod Worked

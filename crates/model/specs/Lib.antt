@@ -8,3 +8,9 @@ pub mod Ledgers
 pub mod Broadcasts
 pub mod Makes
 pub mod Laws
+pub mod Books
+pub mod Orders
+pub mod Listing
+pub mod Chains
+pub mod Lookups
+pub mod Examples

@@ -3,7 +3,8 @@ ghost use mathlib.Core.List.{[], _∷_, _++_};
 ghost use Prim.Native.Nat.{ℕ};
 ghost use lib.ListN.{length};
 ghost use Rattle.std.specs.Options.{Cases};
-ghost use Rattle.model.specs.Blocks.{referred};
+ghost use Rattle.std.specs.Orderings.{Decides};
+ghost use Rattle.model.specs.Blocks.{referred, name-of, same-names, same-entry, same-parent, same-side, same-backbone, same-block};
 use crate::names::Name;
 
 /// What a side block enters into the register: a sonde's number is bound to a calibration certificate for a flight,
@@ -101,6 +102,105 @@ impl References {
             References::Two(a, b) => Some((a, References::One(b))),
             References::Three(a, b, c) => Some((a, References::Two(b, c))),
             References::Four(a, b, c, d) => Some((a, References::Three(b, c, d))),
+        }
+    }
+
+    /// Whether these are the same names in the same number and order.
+    pub fn same(self, other: References) -> bool
+        ensures { λ r. ⌜ r ≡ same-names (referred self) (referred other) ⌝ }
+    {
+        match (self.split_first(), other.split_first()) {
+            (None, None) => true,
+            (Some((a, rest)), Some((b, more))) => a.is(b) && rest.same(more),
+            _ => false,
+        }
+    }
+}
+
+impl Entry {
+    /// Whether the two entries are one.
+    pub fn same(self, other: Entry) -> bool
+        ensures { λ r. ⌜ r ≡ same-entry self other ⌝ }
+    {
+        match (self, other) {
+            (
+                Entry::Bind {
+                    sonde,
+                    certificate,
+                    flight,
+                },
+                Entry::Bind {
+                    sonde: s,
+                    certificate: c,
+                    flight: f,
+                },
+            ) => sonde == s && certificate == c && flight == f,
+            (
+                Entry::Release { sonde, flight },
+                Entry::Release {
+                    sonde: s,
+                    flight: f,
+                },
+            ) => sonde == s && flight == f,
+            _ => false,
+        }
+    }
+}
+
+impl SideBlock {
+    /// Whether every field is equal.
+    pub fn same(self, other: SideBlock) -> bool
+        ensures { λ r. ⌜ r ≡ same-side self other ⌝ }
+    {
+        self.name.is(other.name)
+            && self.author == other.author
+            && self.entry.same(other.entry)
+            && self.references.same(other.references)
+    }
+}
+
+impl Parent {
+    /// Whether view and name are equal.
+    pub fn same(self, other: Parent) -> bool
+        ensures { λ r. ⌜ r ≡ same-parent self other ⌝ }
+    {
+        self.view == other.view && self.name.is(other.name)
+    }
+}
+
+impl BackboneBlock {
+    /// Whether every field is equal.
+    pub fn same(self, other: BackboneBlock) -> bool
+        ensures { λ r. ⌜ r ≡ same-backbone self other ⌝ }
+    {
+        self.name.is(other.name)
+            && self.author == other.author
+            && self.view == other.view
+            && self.parent.same(other.parent)
+            && self.references.same(other.references)
+    }
+}
+
+impl Block {
+    /// Its name.
+    pub fn name(self) -> Name
+        ensures { λ r. ⌜ r ≡ name-of self ⌝ }
+    {
+        match self {
+            Block::Side(side) => side.name,
+            Block::Backbone(backbone) => backbone.name,
+        }
+    }
+
+    /// Whether the two blocks have one content: every field is equal.
+    pub fn same(self, other: Block) -> bool
+        ensures value { λ r. ⌜ r ≡ same-block self other ⌝ }
+        ensures equal { λ r. ⌜ Decides r (self ≡ other) ⌝ }
+    {
+        match (self, other) {
+            (Block::Side(a), Block::Side(b)) => a.same(b),
+            (Block::Backbone(a), Block::Backbone(b)) => a.same(b),
+            _ => false,
         }
     }
 }

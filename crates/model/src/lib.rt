@@ -1,5 +1,6 @@
 //! What all layers share: names, blocks, statements and refusals, and the numbers, quorums and votes of one view.
 
+pub mod answers;
 pub mod blocks;
 pub mod names;
 pub mod numbers;
@@ -9,6 +10,8 @@ pub mod statements;
 pub mod theorems;
 pub mod votes;
 
+pub use answers::Added;
+pub use answers::Binding;
 pub use blocks::BackboneBlock;
 pub use blocks::Block;
 pub use blocks::Entry;

@@ -1,5 +1,6 @@
 ghost use mathlib.Core.Path.{_≡_};
 ghost use Rattle.model.specs.Names.{same};
+ghost use Rattle.model.specs.Orders.{name-before};
 
 /// A block's name: two numbers below 2^56, not both zero but for genesis. The host computes names.
 #[derive(Clone, Copy)]
@@ -17,5 +18,11 @@ impl Name {
         ensures { λ r. ⌜ r ≡ same self other ⌝ }
     {
         self.high == other.high && self.low == other.low
+    }
+    /// Whether this name is before the other: by the first number, then the second.
+    pub fn before(self, other: Name) -> bool
+        ensures { λ r. ⌜ r ≡ name-before self other ⌝ }
+    {
+        self.high < other.high || self.high == other.high && self.low < other.low
     }
 }
