@@ -1,26 +1,25 @@
 -- What a relayed broadcast's supports stand for, and what one that is put in an old one's place keeps.
 use borrow.Author.Needs.{needs}
-use mathlib.Core.Bool.{Bool, true, false, cond, not, _&&_, _||_}
+use mathlib.Core.Bool.{Bool, true, false, cond, _||_}
 use mathlib.Core.Logic.{_⊎_, inl, inr, ⊎-elim}
 use mathlib.Core.Path.{_≡_, refl, sym, ap, _∙_}
 use native.Mathlib.Omega.{arith}
-use Prim.Native.Nat.{ℕ, _+_, _*_, _^_, _<_, _≤_}
+use Prim.Native.Nat.{ℕ, _^_, _<_, _≤_}
 use lib.Bits.{bitAnd, bitOr, or-comm, or-lt, or-zero-l}
-use lib.Dec.{eqb, ltb}
+use lib.Dec.{eqb}
 use lib.Pow.{pow-mono}
 use Rattle.std.proofs.shelf.Bits.{pow-pos}
 use Rattle.std.proofs.shelf.Tests.{ltb-true, lt-ltb, eqb-true, or-cases}
-use Rattle.std.specs.declared.option.Option.{Option}
-use Rattle.std.specs.declared.option.Option.the-variants.{Some, None}
+use Rattle.std.specs.declared.option.Option.the-variants.{None}
 use Rattle.model.specs.declared.names.Name.{Name}
 use Rattle.model.specs.declared.numbers.Numbers.{Numbers}
 use Rattle.model.specs.declared.votes.Grade.{Grade}
 use Rattle.model.specs.declared.votes.Grade.the-variants.{One, Two}
 use Rattle.model.specs.Names.{same}
 use Rattle.model.specs.Questions.{first-no}
-use Rattle.model.specs.Quorums.{stations, leads, within, quorum, single}
-use Rattle.model.specs.Ledgers.{Ledger, empty, is, under, enter, clear, vacant}
-use Rattle.model.specs.Broadcasts.{Meaning, ledger, complete, hear-questions}
+use Rattle.model.specs.Quorums.{stations, leads, within, quorum}
+use Rattle.model.specs.Ledgers.{empty, is, under, enter, clear, vacant}
+use Rattle.model.specs.Broadcasts.{ledger, complete, hear-questions}
 use Rattle.model.specs.Makes.{relay-fits, relay-free}
 use Rattle.model.proofs.Ledgers.{enter-none, enter-twice, under-enter, clear-enter, vacant-enter}
 use Rattle.model.proofs.Hearings.{accepted}

@@ -1,8 +1,8 @@
 -- Entering a mask, and giving the second vote with the first quorum, keeps the clauses of every broadcast.
-use mathlib.Core.Bool.{Bool, true, false, cond, not, _&&_}
+use mathlib.Core.Bool.{Bool, true, false, cond, not}
 use mathlib.Core.List.{List, [], _∷_}
 use mathlib.Core.Logic.{_⊎_, inl, inr, ⊎-elim}
-use mathlib.Core.Path.{_≡_, refl, ap, _∙_}
+use mathlib.Core.Path.{_≡_, refl}
 use native.Mathlib.Omega.{arith}
 use Prim.Native.Nat.{ℕ}
 use Rattle.std.proofs.shelf.Tests.{and-parts}
@@ -19,7 +19,7 @@ use Rattle.model.specs.declared.votes.SecondVote.{SecondVote}
 use Rattle.model.specs.declared.votes.SecondVote.the-variants.{Waiting, Given, Shut}
 use Rattle.model.specs.Questions.{Question, Answered, first-no}
 use Rattle.model.specs.Quorums.{has, quorum, Quorum}
-use Rattle.model.specs.Ledgers.{Ledger, at, under}
+use Rattle.model.specs.Ledgers.{at, under}
 use Rattle.model.specs.Broadcasts.{Meaning, ledger, Asking, hear-questions, entered, newly, given, heard, Hears}
 use Rattle.model.proofs.Ledgers.{at-enter}
 

@@ -1,8 +1,8 @@
 -- Bits of masks, and masks of one station.
-use mathlib.Core.Bool.{Bool, true, false}
-use mathlib.Core.Logic.{_⊎_, inl, inr, ⊎-elim}
+use mathlib.Core.Bool.{true, false}
+use mathlib.Core.Logic.{_⊎_, ⊎-elim}
 use mathlib.Core.Path.{_≡_, refl, sym, ap, _∙_}
-use Prim.Native.Nat.{ℕ, zero, suc, min, _+_, _*_, _/_, _%_, _^_, _<_, _≤_}
+use Prim.Native.Nat.{ℕ, zero, suc, min, _/_, _%_, _^_, _<_, _≤_}
 use native.Mathlib.Nat.{pow-succ', div-div-eq-div-mul, mul-div-cancel-left, zero-div, div-one}
 use native.Mathlib.Omega.{arith}
 use lib.Bits.{bitAnd, and-step, and-shr}

@@ -1,13 +1,13 @@
 -- Two quorums share more than may lie, and the stations that do not lie are a quorum.
 use mathlib.Core.Bool.{Bool, true, false, not, _&&_}
 use mathlib.Core.Path.{_≡_, refl, sym, ap, ap₂, _∙_}
-use Prim.Native.Nat.{ℕ, zero, suc, min, _+_, _-_, _*_, _/_, _%_, _^_, _<_, _≤_}
+use Prim.Native.Nat.{ℕ, zero, suc, _+_, _-_, _*_, _/_, _%_, _^_, _<_, _≤_}
 use native.Mathlib.Decide.{decLe}
 use native.Mathlib.Nat.{pow-succ'}
 use native.Mathlib.Omega.{arith}
 use lib.Bits.{bitAnd, and-lt}
 use lib.Count.{ones, ones-step, ones-le}
-use lib.Dec.{eqb, leb, ltb}
+use lib.Dec.{leb, ltb}
 use Rattle.std.proofs.shelf.Bits.{pow-pos}
 use Rattle.std.proofs.shelf.Tests.{both-ways, and-parts, and-from, leb-true, le-leb, ltb-true, lt-ltb, eqb-true}
 use Rattle.model.specs.declared.numbers.Numbers.{Numbers}

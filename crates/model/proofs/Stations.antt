@@ -1,7 +1,7 @@
 -- Masks and ledgers, station by station; a ledger holds a quorum under one name at most.
 use borrow.Author.Needs.{needs}
-use mathlib.Core.Bool.{Bool, true, false, not, _&&_}
-use mathlib.Core.List.{List, [], _∷_}
+use mathlib.Core.Bool.{Bool, true, false, not}
+use mathlib.Core.List.{[], _∷_}
 use mathlib.Core.Path.{_≡_, refl, sym, ap, _∙_}
 use native.Mathlib.Nat.{pow-succ'}
 use native.Mathlib.Omega.{arith}
@@ -14,7 +14,6 @@ use Rattle.std.specs.declared.option.Option.{Option}
 use Rattle.std.specs.declared.option.Option.the-variants.{Some, None}
 use Rattle.model.specs.declared.names.Name.{Name}
 use Rattle.model.specs.declared.numbers.Numbers.{Numbers}
-use Rattle.model.specs.Names.{same}
 use Rattle.model.specs.Quorums.{has, stations, within, Quorum}
 use Rattle.model.specs.Ledgers.{Ledger, at, is, bit, entry, under, enter, clear, vacant}
 use Rattle.model.specs.Laws.{Station-by-station}

@@ -1,10 +1,9 @@
 -- Grades by their numbers, and the second vote. Assumes nothing.
-use mathlib.Core.Bool.{Bool, cond}
+use mathlib.Core.Bool.{cond}
 use Prim.Native.Nat.{ℕ}
 use lib.Dec.{eqb}
 use Rattle.std.specs.declared.option.Option.{Option}
 use Rattle.std.specs.declared.option.Option.the-variants.{Some, None}
-use Rattle.model.specs.declared.names.Name.{Name}
 use Rattle.model.specs.declared.votes.Grade.{Grade}
 use Rattle.model.specs.declared.votes.Grade.the-variants.{One, Two}
 use Rattle.model.specs.declared.votes.SecondVote.{SecondVote}
