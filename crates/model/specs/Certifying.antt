@@ -33,7 +33,7 @@ taking x s = record {
 
 abbrev pub certificate-questions : Core → Book → Certificate → List Question
 certificate-questions c K x =
-      (2, some-stations (numbers c) (x .mask))
+    (2, some-stations (numbers c) (x .mask))
     ∷ (3, grade-fits (x .grade) && (view-fits (x .view) && name-fits (x .name)))
     ∷ (6, of-view (x .view) (K (x .name)))
     ∷ (10, quorum (numbers c) (x .mask))

@@ -23,7 +23,7 @@ use Rattle.model.specs.Stations.{Core, numbers, view, height, with-state}
 
 abbrev pub claim-questions : Core → Claim → List Question
 claim-questions c x =
-      (2, station-fits (numbers c) (x .station))
+    (2, station-fits (numbers c) (x .station))
     ∷ (3, view-fits (x .view) && ltb (x .height) (x .view))
     ∷ (4, leb (view c) (x .view + 1))
     ∷ (5, leb (x .view + 1) (view c))
@@ -46,7 +46,7 @@ pub record Grounds : Type 0 where
 
 abbrev pub ground-questions : Core → List Question
 ground-questions c =
-      (19, leads (numbers c) (view c) && not (c .state .grounded))
+    (19, leads (numbers c) (view c) && not (c .state .grounded))
     ∷ (20, eqb (height c + 1) (view c) || (ltb (height c + 1) (view c) && quorum (numbers c) (keepers (stations (numbers c)) (c .state .claims))))
     ∷ []
 

@@ -72,7 +72,7 @@ next-view c = max (view c) (height c) + 1
 
 abbrev pub leave-questions : Desk → List Question
 leave-questions d =
-      (16, two-free d)
+    (16, two-free d)
     ∷ (17, is-shut (d .core .cast .second) || adopts (d .core))
     ∷ (18, ltb (next-view (d .core)) 268435456)
     ∷ []

@@ -37,7 +37,7 @@ halves-fit x = ltb (x .high) 72057594037927936 && ltb (x .low) 72057594037927936
 unfoldable pub name-fits : Name → Bool
 name-fits x = halves-fit x && not (same x genesis)
 
-unfoldable pub names-fit : List Name → Bool
+abbrev pub names-fit : List Name → Bool
 names-fit [] = true
 names-fit (x ∷ xs) = name-fits x && names-fit xs
 

@@ -44,7 +44,7 @@ backbone-so (Some (Backbone b)) p = p b
 -- the claims are of the view before, so their heights are below it
 abbrev pub offered-form : Core → Offer → List OfferClaim → List Question
 offered-form c o claims =
-      (2, station-fits (numbers c) (o .station))
+    (2, station-fits (numbers c) (o .station))
     ∷ (3, (view-fits (o .view) && (name-fits (o .name) && grade-fits (o .grade))) && (leb (length claims) 28 && heights-below (o .view - 1) claims))
     ∷ (4, leb (view c) (o .view))
     ∷ (5, leb (o .view) (view c))
@@ -65,7 +65,7 @@ skips-claimed c o claims held =
 
 abbrev pub offered-fit : Desk → Book → Offer → List OfferClaim → List Question
 offered-fit d K o claims =
-      (6, of-view (o .view) (K (o .name)))
+    (6, of-view (o .view) (K (o .name)))
     ∷ (9, from-leader (d .core) o (K (o .name)))
     ∷ (10, parent-certified (d .core) o (K (o .name)))
     ∷ (12, skips-claimed (d .core) o claims (K (o .name)))
@@ -91,7 +91,7 @@ grade-at n = cond (eqb n 2) Two One
 
 abbrev pub voices-form : Core → Voices → List Question
 voices-form c o =
-      (2, some-stations (numbers c) (o .mask))
+    (2, some-stations (numbers c) (o .mask))
     ∷ (3, grade-fits (o .grade) && (view-fits (o .view) && name-fits (o .name)))
     ∷ (4, leb (view c) (o .view))
     ∷ (5, leb (o .view) (view c))
@@ -99,7 +99,7 @@ voices-form c o =
 
 abbrev pub voices-fit : Asking → Asking → Desk → Book → Voices → List Question
 voices-fit fits free d K o =
-      (6, of-view (o .view) (K (o .name)))
+    (6, of-view (o .view) (K (o .name)))
     ∷ hear-questions fits free (d .core .cast) (grade-at (o .grade)) (o .name) (o .mask) ++ (16, two-free d) ∷ []
 
 -- the form of the voices, then their block and the broadcast's own questions
