@@ -107,12 +107,12 @@ claimants-count n p m c cs k l h =
     (or-lt n (bitOr m (2 ^ s)) rest one (marked-below n (claims-up-to p cs)))
     (or-lt n m all k (marked-below n (claims-up-to p (c ∷ cs))))
     (λ i.
-      let t : leb (c .height) p ≡ true = search needs in
-      let u : eqb s i ≡ true → ltb i n ≡ true = λ e. let f = eqb-true s i e in search needs in
-      has-either (bitOr m (2 ^ s)) rest i
-      ∙ ap₂ (λ a b. a || b) (has-either m (2 ^ s) i ∙ ap (λ b. has m i || b) (has-one s i)) (marked-at n (claims-up-to p cs) i)
-      ∙ together (has m i) (eqb s i) (ltb i n) (leb (c .height) p) (claims-up-to p cs i) t u
-      ∙ sym (has-either m all i ∙ ap (λ b. has m i || b) (marked-at n (claims-up-to p (c ∷ cs)) i)))
+    let t : leb (c .height) p ≡ true = search needs in
+    let u : eqb s i ≡ true → ltb i n ≡ true = λ e. let f = eqb-true s i e in search needs in
+    has-either (bitOr m (2 ^ s)) rest i
+    ∙ ap₂ (λ a b. a || b) (has-either m (2 ^ s) i ∙ ap (λ b. has m i || b) (has-one s i)) (marked-at n (claims-up-to p cs) i)
+    ∙ together (has m i) (eqb s i) (ltb i n) (leb (c .height) p) (claims-up-to p cs i) t u
+    ∙ sym (has-either m all i ∙ ap (λ b. has m i || b) (marked-at n (claims-up-to p (c ∷ cs)) i)))
 
 -- one that does not
 pub claimants-skip : (n p : ℕ) (c : OfferClaim) (cs : List OfferClaim) → (ltb (c .station) n && leb (c .height) p) ≡ false
@@ -126,6 +126,7 @@ claimants-skip n p c cs h =
     aside : (l e t q : Bool) → (e ≡ true → (l && t) ≡ false) → (l && ((e && t) || q)) ≡ (l && q)
     aside l true t q f = let g = f refl in search needs
     aside l false t q f = refl
+
     apart : (i : ℕ) → (ltb i n && claims-up-to p (c ∷ cs) i) ≡ (ltb i n && claims-up-to p cs i)
     apart i = aside (ltb i n) (eqb (c .station) i) (leb (c .height) p) (claims-up-to p cs i)
         (λ e. ap (λ j. ltb j n && leb (c .height) p) (sym (eqb-true (c .station) i e)) ∙ h)

@@ -6,7 +6,6 @@ pub mod Quorums
 pub mod Votes
 pub mod Ledgers
 pub mod Broadcasts
-pub mod Claims
 pub mod Makes
 pub mod Laws
 pub mod Books

@@ -4,6 +4,7 @@
 mod add;
 mod certificate;
 mod claim;
+mod ground;
 pub mod grounds;
 mod leave;
 mod outbox;

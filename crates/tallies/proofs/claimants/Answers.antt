@@ -27,13 +27,14 @@ loop-claim-again c =
     let e : claimants n p (drop i xs) ≡ claimants n p (x ∷ drop (i + 1) xs) = at-drop-more (claimants n p) xs i d (c .loop-claim-test .taken) in
     let all = c .loop-claim .inv .1 in
     elim (c .if-claim-n .came) [
-      then-claim-n·then-claim-parent w ↦
-        let l : x .station < n = search needs in
-        let k = claimants-count n p m x (drop (i + 1) xs) (c .loop-claim .inv .0) l (search needs) in
-        let q = pow-below (x .station) n l in
-        let o = or-lt n m (2 ^ (x .station)) (c .loop-claim .inv .0) q in
-        search needs
-      | else-claim-n w ↦ let k = claimants-skip n p x (drop (i + 1) xs) (search needs) in search needs ]
+      | then-claim-n·then-claim-parent w ↦
+          let l : x .station < n = search needs in
+          let k = claimants-count n p m x (drop (i + 1) xs) (c .loop-claim .inv .0) l (search needs) in
+          let q = pow-below (x .station) n l in
+          let o = or-lt n m (2 ^ (x .station)) (c .loop-claim .inv .0) q in
+          search needs
+      | else-claim-n w ↦ let k = claimants-skip n p x (drop (i + 1) xs) (search needs) in search needs
+    ]
 
 pub returns : need.returns
 returns c =
@@ -42,7 +43,7 @@ returns c =
     let p = c .args .parent in
     let m = c .loop-claim .mask in
     let e : claimants n p (drop (c .loop-claim .claim-index) xs) ≡ 0 =
-        at-drop-all (claimants n p) xs (c .loop-claim .claim-index) (c .loop-claim-test .left) ∙ claimants-none n p in
+    at-drop-all (claimants n p) xs (c .loop-claim .claim-index) (c .loop-claim-test .left) ∙ claimants-none n p in
     let z : bitOr m (claimants n p (drop (c .loop-claim .claim-index) xs)) ≡ m = ap (bitOr m) e ∙ or-zero-r m in
     let all = c .loop-claim .inv .1 in
     search needs
