@@ -10,3 +10,4 @@ pub mod Contents
 pub mod OrderLaws
 pub mod OneListing
 pub mod Worked
+pub mod Claims

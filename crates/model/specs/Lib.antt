@@ -14,3 +14,11 @@ pub mod Listing
 pub mod Chains
 pub mod Lookups
 pub mod Examples
+pub mod Claims
+pub mod Ranges
+pub mod Stations
+pub mod Certifying
+pub mod Claiming
+pub mod Passing
+pub mod Adding
+pub mod Voting

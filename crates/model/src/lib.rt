@@ -7,6 +7,7 @@ pub mod numbers;
 pub mod quorums;
 pub mod refusals;
 pub mod statements;
+pub mod states;
 pub mod theorems;
 pub mod votes;
 
@@ -26,6 +27,9 @@ pub use statements::Claim;
 pub use statements::Offer;
 pub use statements::OfferClaim;
 pub use statements::Voices;
+pub use states::Probed;
+pub use states::Sent;
+pub use states::State;
 pub use votes::Event;
 pub use votes::Grade;
 pub use votes::SecondVote;
