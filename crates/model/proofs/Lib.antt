@@ -11,3 +11,4 @@ pub mod OrderLaws
 pub mod OneListing
 pub mod Worked
 pub mod Claims
+pub mod Courses

@@ -22,3 +22,4 @@ pub mod Claiming
 pub mod Passing
 pub mod Adding
 pub mod Voting
+pub mod StationLaws

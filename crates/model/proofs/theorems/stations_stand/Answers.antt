@@ -1,0 +1,5 @@
+use Rattle.model.proofs.Courses.{calls-follow, votes-once}
+use Rattle.model.proofs.theorems.stations_stand.Needs as need
+
+pub returns : need.returns
+returns c = record { follow = calls-follow; votes = votes-once }
