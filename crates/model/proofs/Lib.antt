@@ -11,3 +11,5 @@ pub mod OrderLaws
 pub mod OneListing
 pub mod Worked
 pub mod Claims
+pub mod Tables
+pub mod Voicing
