@@ -64,10 +64,10 @@ voiced hears d o m send before d2 c3 d4 h e1 e2 e3 e4 =
     let m3 : c3 .cast ≡ m = ap (λ (x : Core). x .cast) a3 ∙ completing-cast (o .name) (giving y c1) ∙ giving-cast y c1 in
     let m4 : d4 .core .cast ≡ m = ap (λ (x : Desk). x .core .cast) e4 ∙ ap (λ (x : Core). x .cast) (relay-core c3 o send (with-core c3 d2)) ∙ m3 in
     let a4 : d4 ≡ posted (giving-posts c1 y ++ relay-posts c1 o send) (with-core (voicing (d .core) o m) d) =
-        e4 ∙ ap (λ (ps : List Post). posted ps (with-core c3 d2)) (relay-view c3 c1 o send m3)
-           ∙ ap (λ (x : Desk). posted (relay-posts c1 o send) (with-core c3 x)) a2
-           ∙ in-turn y (relay-posts c1 o send) c3 d1
-           ∙ ap (λ (x : Core). posted (giving-posts c1 y ++ relay-posts c1 o send) (with-core x d)) a3 in
+    e4 ∙ ap (λ (ps : List Post). posted ps (with-core c3 d2)) (relay-view c3 c1 o send m3)
+    ∙ ap (λ (x : Desk). posted (relay-posts c1 o send) (with-core c3 x)) a2
+    ∙ in-turn y (relay-posts c1 o send) c3 d1
+    ∙ ap (λ (x : Core). posted (giving-posts c1 y ++ relay-posts c1 o send) (with-core x d)) a3 in
     record {
       send = send;
       heard = subst (λ (n : Meaning). hears (d .core .cast) (grade-at (o .grade)) (o .name) (o .mask) send n) (sym m4) h;

@@ -1,13 +1,12 @@
-ghost use mathlib.Core.Bool.{true, false};
 ghost use mathlib.Core.Path.{_≡_};
-ghost use Rattle.std.specs.Options.{isSome};
 ghost use Rattle.std.specs.declared.option.Option.the-variants.{Some};
 ghost use Rattle.model.specs.declared.blocks.Block.the-variants.{Backbone};
 ghost use Rattle.model.specs.Questions.{Judged};
-ghost use Rattle.model.specs.Stations.{two-free, sent, own-voice};
+ghost use Rattle.model.specs.Stations.{sent, own-voice};
 ghost use Rattle.model.specs.Voting.{offered-form, offered-fit, offered-questions, from-leader, parent-certified, skips-claimed, Offer-call};
 ghost use Rattle.book.specs.Meaning.{book-of};
 ghost use Rattle.station.specs.Meaning.{core, desk};
+ghost use Rattle.station.specs.Ready.{May-vote};
 use crate::ranges::grade_fits;
 use crate::ranges::name_fits;
 use crate::ranges::view_fits;
@@ -91,9 +90,15 @@ impl<B: Broadcast> Station<B> {
     }
 
     // The questions on its block, its claims, the vote and the outbox.
-    fn judge_offered_fit(&self, book: &Book<'_>, out: &Bounded<'_, Sent, 32>, offer: Offer, claims: &[OfferClaim]) -> Result<(), Refusal>
+    fn judge_offered_fit(
+        &self,
+        book: &Book<'_>,
+        out: &Bounded<'_, Sent, 32>,
+        offer: Offer,
+        claims: &[OfferClaim],
+    ) -> Result<(), Refusal>
         ensures { λ r. ⌜ Judged (offered-fit (desk B·Observe (self .entry) (out .entry)) (book-of (now (book .entry))) offer (now (claims .entry)))
-            (λ _. (isSome (B·Observe .meaning (now (self .entry) .cast) .first) ≡ false) × (two-free (desk B·Observe (self .entry) (out .entry)) ≡ true)) r ⌝ }
+            (λ _. May-vote (desk B·Observe (self .entry) (out .entry))) r ⌝ }
     {
         let Some(Block::Backbone(block)) = book.find(offer.name) else {
             return Err(Refusal::NotHeld);
@@ -119,9 +124,15 @@ impl<B: Broadcast> Station<B> {
         Ok(())
     }
 
-    fn judge_offered(&self, book: &Book<'_>, out: &Bounded<'_, Sent, 32>, offer: Offer, claims: &[OfferClaim]) -> Result<(), Refusal>
+    fn judge_offered(
+        &self,
+        book: &Book<'_>,
+        out: &Bounded<'_, Sent, 32>,
+        offer: Offer,
+        claims: &[OfferClaim],
+    ) -> Result<(), Refusal>
         ensures { λ r. ⌜ Judged (offered-questions (desk B·Observe (self .entry) (out .entry)) (book-of (now (book .entry))) offer (now (claims .entry)))
-            (λ _. (isSome (B·Observe .meaning (now (self .entry) .cast) .first) ≡ false) × (two-free (desk B·Observe (self .entry) (out .entry)) ≡ true)) r ⌝ }
+            (λ _. May-vote (desk B·Observe (self .entry) (out .entry))) r ⌝ }
     {
         match self.judge_offered_form(offer, claims) {
             Err(no) => Err(no),
@@ -130,7 +141,13 @@ impl<B: Broadcast> Station<B> {
     }
 
     /// Casts the first vote for the leader's block, and sends it as a voice of grade 1. It takes up no certificate.
-    pub fn offer(&mut self, book: &Book<'_>, out: &mut Bounded<'_, Sent, 32>, offer: Offer, claims: &[OfferClaim]) -> Result<(), Refusal>
+    pub fn offer(
+        &mut self,
+        book: &Book<'_>,
+        out: &mut Bounded<'_, Sent, 32>,
+        offer: Offer,
+        claims: &[OfferClaim],
+    ) -> Result<(), Refusal>
         ensures { λ r. ⌜ Offer-call (desk B·Observe (self .entry) (out .entry)) (book-of (now (book .entry))) offer (now (claims .entry))
             (desk B·Observe (self .exit) (out .exit)) r ⌝ }
     {

@@ -1,16 +1,14 @@
-ghost use mathlib.Core.Bool.{true};
 ghost use mathlib.Core.Path.{_≡_};
 ghost use Prim.Native.Nat.{_+_, _<_, _≤_};
 ghost use lib.ListN.{length};
-ghost use Rattle.std.specs.declared.option.Option.the-variants.{None};
-ghost use Rattle.model.specs.Questions.{first-no, Judged};
-ghost use Rattle.model.specs.Broadcasts.{hear-questions};
-ghost use Rattle.model.specs.Stations.{two-free, posted};
+ghost use Rattle.model.specs.Questions.{Judged};
+ghost use Rattle.model.specs.Stations.{posted};
 ghost use Rattle.model.specs.Voting.{grade-at, gave as gave-of, voices-form, voices-fit, voices-questions, completing, relay-posts, Voices-call};
 ghost use Rattle.model.proofs.Voicing.{gives};
 ghost use Rattle.places.specs.Held.{held, bound};
 ghost use Rattle.book.specs.Meaning.{book-of};
 ghost use Rattle.station.specs.Meaning.{core, desk};
+ghost use Rattle.station.specs.Ready.{May-hear};
 use crate::certificate::take_up;
 use crate::ranges::grade_fits;
 use crate::ranges::name_fits;
@@ -68,15 +66,20 @@ impl<B: Broadcast> Station<B> {
     }
 
     // The questions on their block, those of the broadcast, and that on the outbox.
-    fn judge_voices_fit(&self, book: &Book<'_>, out: &Bounded<'_, Sent, 32>, voices: Voices) -> Result<(), Refusal>
+    fn judge_voices_fit(
+        &self,
+        book: &Book<'_>,
+        out: &Bounded<'_, Sent, 32>,
+        voices: Voices,
+    ) -> Result<(), Refusal>
         ensures { λ r. ⌜ Judged (voices-fit (B·Observe .fits) (B·Observe .free) (desk B·Observe (self .entry) (out .entry)) (book-of (now (book .entry))) voices)
-            (λ _. (first-no (hear-questions (B·Observe .fits) (B·Observe .free) (B·Observe .meaning (now (self .entry) .cast)) (grade-at (voices .grade)) (voices .name) (voices .mask)) ≡ None)
-                × (two-free (desk B·Observe (self .entry) (out .entry)) ≡ true)) r ⌝ }
+            (λ _. May-hear (B·Observe .fits) (B·Observe .free) (desk B·Observe (self .entry) (out .entry)) voices) r ⌝ }
     {
         if !book.holds_backbone(voices.name, voices.view) {
             return Err(Refusal::NotHeld);
         }
-        if let Some(why) = self.cast.refusal(grade_at(voices.grade), voices.name, voices.mask) {
+        let grade = grade_at(voices.grade);
+        if let Some(why) = self.cast.refusal(grade, voices.name, voices.mask) {
             return Err(why);
         }
         if !out.has_room(2) {
@@ -85,10 +88,14 @@ impl<B: Broadcast> Station<B> {
         Ok(())
     }
 
-    fn judge_voices(&self, book: &Book<'_>, out: &Bounded<'_, Sent, 32>, voices: Voices) -> Result<(), Refusal>
+    fn judge_voices(
+        &self,
+        book: &Book<'_>,
+        out: &Bounded<'_, Sent, 32>,
+        voices: Voices,
+    ) -> Result<(), Refusal>
         ensures { λ r. ⌜ Judged (voices-questions (B·Observe .fits) (B·Observe .free) (desk B·Observe (self .entry) (out .entry)) (book-of (now (book .entry))) voices)
-            (λ _. (first-no (hear-questions (B·Observe .fits) (B·Observe .free) (B·Observe .meaning (now (self .entry) .cast)) (grade-at (voices .grade)) (voices .name) (voices .mask)) ≡ None)
-                × (two-free (desk B·Observe (self .entry) (out .entry)) ≡ true)) r ⌝ }
+            (λ _. May-hear (B·Observe .fits) (B·Observe .free) (desk B·Observe (self .entry) (out .entry)) voices) r ⌝ }
     {
         match self.judge_voices_form(voices) {
             Err(no) => Err(no),
@@ -150,13 +157,19 @@ impl<B: Broadcast> Station<B> {
 
     /// Hands voices to the broadcast. A second vote that this gives is certified and sent, a view that is then complete is certified,
     /// and a mask that the broadcast hands over is sent last.
-    pub fn voices(&mut self, book: &Book<'_>, out: &mut Bounded<'_, Sent, 32>, voices: Voices) -> Result<(), Refusal>
+    pub fn voices(
+        &mut self,
+        book: &Book<'_>,
+        out: &mut Bounded<'_, Sent, 32>,
+        voices: Voices,
+    ) -> Result<(), Refusal>
         ensures { λ r. ⌜ Voices-call (B·Observe .fits) (B·Observe .free) (B·Broadcast .hears) (desk B·Observe (self .entry) (out .entry)) (book-of (now (book .entry))) voices
             (desk B·Observe (self .exit) (out .exit)) r ⌝ }
     {
         self.judge_voices(book, out, voices)?;
         let before = self.cast.second();
-        let send = self.cast.hear(grade_at(voices.grade), voices.name, voices.mask)?;
+        let grade = grade_at(voices.grade);
+        let send = self.cast.hear(grade, voices.name, voices.mask)?;
         self.give(out, before);
         self.complete(voices.name);
         self.relay(out, voices, send);

@@ -15,7 +15,8 @@ returns g c =
     let given = desk-of (g .B·Observe) (c .give .last .self) (c .give .last .out) in
     let completed = core-of (g .B·Observe) (c .complete .last .self) in
     let after = desk-of (g .B·Observe) (c .complete .last .self) (c .relay .last .out) in
-    let heard = subst (λ (a : Grade). hears (d .core .cast) a (o .name) (o .mask) send m) (c .grade-at .ensures) (c .in-Continue-send .ensures tt .1) in
-    (c .in-Continue-judge-voices .ensures tt .0,
+    let heard = subst (λ (a : Grade). hears (d .core .cast) a (o .name) (o .mask) send m) (c .grade-at-grade .ensures) (c .in-Continue-send .ensures tt .1) in (
+      c .in-Continue-judge-voices .ensures tt .0,
       voiced hears d o m send (c .second-before .result) given completed after
-      heard (c .second-before .ensures) (c .give .ensures .after) (c .complete .ensures) (c .relay .ensures))
+          heard (c .second-before .ensures) (c .give .ensures .after) (c .complete .ensures) (c .relay .ensures),
+    )
