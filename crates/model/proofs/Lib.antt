@@ -12,3 +12,5 @@ pub mod OneListing
 pub mod Worked
 pub mod Claims
 pub mod Courses
+pub mod Tables
+pub mod Voicing

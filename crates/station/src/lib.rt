@@ -7,11 +7,13 @@ mod claim;
 mod ground;
 pub mod grounds;
 mod leave;
+mod offer;
 mod outbox;
 mod probe;
 mod ranges;
 mod start;
 pub mod stations;
+mod voices;
 
 pub use grounds::Ground;
 pub use outbox::take;
