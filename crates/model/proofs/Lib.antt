@@ -14,3 +14,4 @@ pub mod Claims
 pub mod Courses
 pub mod Tables
 pub mod Voicing
+pub mod Postings

@@ -1,7 +1,9 @@
--- What no call of a station undoes: views and heights do not fall, and in one view a vote stays. Assumes nothing.
-use mathlib.Core.List.{List}
+-- What no call of a station undoes: views and heights do not fall, and in one view a vote stays; and what each call states. Assumes nothing.
+use mathlib.Core.Bool.{cond}
+use mathlib.Core.List.{List, [], _∷_, _++_}
 use mathlib.Core.Path.{_≡_}
 use Prim.Native.Nat.{ℕ, _≤_}
+use Rattle.std.specs.declared.option.Option.{Option}
 use Rattle.std.specs.declared.option.Option.the-variants.{Some, None}
 use Rattle.std.specs.declared.result.Result.{Result}
 use Rattle.std.specs.declared.result.Result.the-variants.{Ok}
@@ -16,12 +18,12 @@ use Rattle.model.specs.declared.states.Probed.{Probed}
 use Rattle.model.specs.declared.states.Probed.the-variants.{NoAdopt}
 use Rattle.model.specs.declared.refusals.Refusal.{Refusal}
 use Rattle.model.specs.Books.{Book}
-use Rattle.model.specs.Broadcasts.{Asking, Hears}
-use Rattle.model.specs.Stations.{Core, Desk, numbers, view, height}
+use Rattle.model.specs.Broadcasts.{Meaning, Asking, Hears}
+use Rattle.model.specs.Stations.{Core, Desk, Post, Statement, voice, claim, numbers, view, height, adopts, posted, messages, statements}
 use Rattle.model.specs.Certifying.{Certificate-call}
 use Rattle.model.specs.Claiming.{Grounds, Claim-call, Ground-call}
-use Rattle.model.specs.Passing.{Probe-call, Leave-call}
-use Rattle.model.specs.Voting.{Offer-call, Voices-call, gave}
+use Rattle.model.specs.Passing.{probe-posts, leave-posts, Probe-call, Leave-call}
+use Rattle.model.specs.Voting.{offer-posts, voices-posts, Offer-call, Voices-call, gave}
 
 -- c′ may come after c
 pub record Follows (c c′ : Core) : Type 0 where
@@ -55,3 +57,23 @@ pub record Votes-once : Type 0 where
       → (d .core .cast .second ≡ Waiting) × (view (d′ .core) ≤ height (d′ .core))
   -- and it waits no more after a Probe that does not adopt
   pub shut : (d d′ : Desk) (h : ℕ) → Probe-call d d′ (Ok (NoAdopt h)) → d′ .core .cast .second ≡ Waiting → ⊥
+
+-- What a call sends is in the outbox afterwards, behind what it held and in this order, and nothing else is touched by it.
+pub record Sent-in-order : Type 0 where
+  pub out : (ps : List Post) (d : Desk) → posted ps d .out ≡ d .out ++ messages ps
+  pub room : (ps : List Post) (d : Desk) → posted ps d .room ≡ d .room
+  pub core : (ps : List Post) (d : Desk) → posted ps d .core ≡ d .core
+
+-- a second vote's voice, where one was given
+abbrev pub second-voice : ℕ → Option Name → List Statement
+second-voice v None = []
+second-voice v (Some y) = voice 2 v y ∷ []
+
+-- What each call states: Offer the first vote, Voices a second vote given and no mask that is passed on, Probe a claim where it does not
+-- adopt, Leave nothing.
+pub record What-is-stated : Type 0 where
+  pub offer : (c : Core) (o : Offer) → statements (offer-posts c o) ≡ voice 1 (view c) (o .name) ∷ []
+  pub voices : (c : Core) (o : Voices) (m : Meaning) (send : Option ℕ)
+      → statements (voices-posts c o m send) ≡ second-voice (m .view) (gave (c .cast .second) (m .second))
+  pub probe : (c : Core) → statements (probe-posts c) ≡ cond (adopts c) [] (claim (view c) (height c) ∷ [])
+  pub leave : (c : Core) → statements (leave-posts c) ≡ []

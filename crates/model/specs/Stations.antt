@@ -65,6 +65,11 @@ abbrev pub posted : List Post → Desk → Desk
 posted [] d = d
 posted (p ∷ ps) d = posted ps (record { core = d .core; out = d .out ++ sent p ∷ []; room = d .room })
 
+-- what these are, in their order
+abbrev pub messages : List Post → List Sent
+messages [] = []
+messages (p ∷ ps) = sent p ∷ messages ps
+
 -- A statement of a station: a voice (grade, view, name), a claim (view, height), or an offer (view, name).
 pub data Statement : Type 0 where
   voice : ℕ → ℕ → Name → Statement

@@ -2,7 +2,7 @@
 
 ghost use Rattle.model.specs.Laws.{All-enter, First-quorum-gives, Station-by-station};
 ghost use Rattle.model.specs.Quorums.{Mask-laws, Quorum-laws};
-ghost use Rattle.model.specs.StationLaws.{Calls-follow, Votes-once};
+ghost use Rattle.model.specs.StationLaws.{Calls-follow, Votes-once, Sent-in-order, What-is-stated};
 
 /// Any two quorums share a station that does not lie, and the stations that do not lie are a quorum; what masks are,
 /// station by station.
@@ -20,7 +20,10 @@ pub fn ledgers_stand()
 
 /// Whatever a station is called with, its view, its height and its target do not fall, and in one view a vote stays; so it casts one first
 /// vote and gives one second vote in a view, and no second vote after a Probe that does not adopt.
+/// What a call sends is in the outbox afterwards, and it tells which of it are statements.
 pub fn stations_stand()
     ensures follow { λ _. ⌜ Calls-follow ⌝ }
     ensures votes { λ _. ⌜ Votes-once ⌝ }
+    ensures sent { λ _. ⌜ Sent-in-order ⌝ }
+    ensures stated { λ _. ⌜ What-is-stated ⌝ }
 {}
