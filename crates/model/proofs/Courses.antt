@@ -30,12 +30,12 @@ use Rattle.model.specs.declared.refusals.Refusal.{Refusal}
 use Rattle.model.specs.Questions.{Question, first-no}
 use Rattle.model.specs.Votes.{after}
 use Rattle.model.specs.Books.{Book}
-use Rattle.model.specs.Broadcasts.{Meaning, Asking, Hears, complete, closed, voted}
+use Rattle.model.specs.Broadcasts.{Meaning, Asking, Hearing, Hears, Keeps, complete, closed, voted}
 use Rattle.model.specs.Stations.{Core, Desk, Post, view, height, adopts, with-state, with-cast, with-core, posted}
 use Rattle.model.specs.Certifying.{higher, taking, Certificate-call}
 use Rattle.model.specs.Claiming.{Grounds, keeping, granting, Claim-call, Ground-call}
 use Rattle.model.specs.Passing.{probing, leaving, probe-posts, leave-posts, Probe-call, Leave-call}
-use Rattle.model.specs.Voting.{offered-questions, offered-form, offered-fit, gave, certifying, giving, completing, voicing, voices-posts, Voiced, Offer-call, Voices-call}
+use Rattle.model.specs.Voting.{offered-questions, offered-form, offered-fit, voices-questions, voices-form, voices-fit, grade-at, gave, certifying, giving, completing, voicing, voices-posts, Voiced, Offer-call, Voices-call}
 use Rattle.model.specs.StationLaws.{Follows, Calls-follow, Votes-once}
 
 -- ---- tables of questions that are all answered yes
@@ -276,3 +276,14 @@ calls-follow = record {
   offer = offers;
   voices = speaks;
 }
+
+-- what a make's own Voices is by the clauses alone
+pub any-make : (fits free : Asking) (hears : Hearing) (d : Desk) (K : Book) (o : Voices) (d′ : Desk) (r : Result (Unit {0}) Refusal)
+    → Keeps fits free hears → Voices-call fits free hears d K o d′ r → Voices-call fits free Hears d K o d′ r
+unfolding voices-questions
+any-make fits free hears d K o d′ (Ok u) keeps p =
+    let y = all-yes (voices-form (d .core) o ++ voices-fit fits free d K o) (p .0) in
+    let w = p .1 in
+    let h = keeps (d .core .cast) (grade-at (o .grade)) (o .name) (o .mask) (w .send) (d′ .core .cast) (y .1 .1 .1 .1 .1 .0) (y .1 .1 .1 .1 .1 .1 .0) (w .heard) in
+    (p .0, record { send = w .send; heard = h; after = w .after })
+any-make fits free hears d K o d′ (Err e) keeps p = p

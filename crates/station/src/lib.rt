@@ -4,6 +4,7 @@
 mod add;
 mod certificate;
 mod claim;
+pub mod clauses;
 mod ground;
 pub mod grounds;
 mod leave;
