@@ -13,5 +13,4 @@ pub mod Worked
 pub mod Claims
 pub mod Courses
 pub mod Tables
-pub mod Voicing
 pub mod Postings

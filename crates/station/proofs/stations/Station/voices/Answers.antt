@@ -1,7 +1,7 @@
 use mathlib.Core.Path.{subst}
 use Rattle.model.specs.declared.votes.Grade.{Grade}
-use Rattle.model.proofs.Voicing.{voiced}
 use Rattle.station.specs.Meaning.{core-of, desk-of}
+use Rattle.station.proofs.Voicing.{voiced}
 use Rattle.station.proofs.stations.Station.voices.Needs as need
 
 pub returns : need.returns

@@ -5,17 +5,14 @@ use mathlib.Core.Path.{_≡_, refl, sym, ap, subst, _∙_}
 use Prim.Native.Nat.{ℕ}
 use Rattle.std.specs.declared.option.Option.{Option}
 use Rattle.std.specs.declared.option.Option.the-variants.{Some, None}
 use Rattle.model.specs.declared.names.Name.{Name}
 use Rattle.model.specs.declared.votes.Grade.the-variants.{Two}
 use Rattle.model.specs.declared.votes.SecondVote.{SecondVote}
 use Rattle.model.specs.declared.statements.Voices.{Voices}
 use Rattle.model.specs.Broadcasts.{Meaning, Hearing, complete}
 use Rattle.model.specs.Stations.{Core, Desk, Post, with-core, with-cast, posted}
 use Rattle.model.specs.Voting.{grade-at, gave, certifying, giving, giving-posts, completing, relay-posts, voicing, Voiced}
-
--- the vote given at a desk
-abbrev pub gives : Option Name → Desk → Desk
-gives y d = posted (giving-posts (d .core) y) (with-core (giving y (d .core)) d)
+use Rattle.station.specs.Ready.{gives}
 
 gives-core : (y : Option Name) (d : Desk) → gives y d .core ≡ giving y (d .core)
 gives-core None d = refl
