@@ -1,3 +1,5 @@
+ghost use mathlib.Core.Path.{_≡_};
+ghost use Rattle.bench.specs.declared.faults.Fault.the-variants.{NoMemory};
 use std::alloc::AllocError;
 use std::fmt;
 
@@ -40,6 +42,8 @@ impl Fault {
 }
 
 pub impl From<AllocError> for Fault as FaultFromAlloc {
+    ghost converts = { λ _ fault. fault ≡ NoMemory };
+
     fn from(_: AllocError) -> Fault {
         Fault::NoMemory
     }

@@ -1,3 +1,5 @@
+ghost use mathlib.Core.Path.{_≡_};
+ghost use Rattle.bench.specs.declared.faults.Fault.the-variants.{NoMemory};
 use crate::faults::Fault;
 use crate::numerals::number;
 use crate::numerals::short_number;
@@ -29,6 +31,8 @@ pub(crate) enum Spoken {
 }
 
 pub impl<T: Drop> From<Refused<T>> for Fault as FaultFromRefused {
+    ghost converts = { λ _ fault. fault ≡ NoMemory };
+
     fn from(_: Refused<T>) -> Fault {
         Fault::NoMemory
     }

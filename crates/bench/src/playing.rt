@@ -1,3 +1,6 @@
+ghost use mathlib.Core.Path.{_≡_};
+ghost use Rattle.std.specs.Vec.{refused};
+ghost use Rattle.bench.specs.declared.faults.Fault.the-variants.{NoMemory};
 use crate::faults::Fault;
 use crate::faults::FaultFromAlloc;
 use crate::numerals::word;
@@ -16,7 +19,9 @@ use words::write;
 use words::write_claims;
 
 /// The parts of a line between its blanks, up to a comment.
-fn parts(heap: Global, line: &str) -> Result<Vec<&str>, Fault> {
+fn parts(heap: Global, line: &str) -> Result<Vec<&str>, Fault>
+    ensures { λ r. ⌜ refused r (λ fault. fault ≡ NoMemory) ⌝ }
+{
     let text = match line.split_once('#') {
         Some((text, _)) => text,
         None => line,
@@ -98,8 +103,10 @@ fn play_parts(heap: Global, parts: &[&str], out: &mut String) -> Result<(), Faul
 }
 
 /// Plays one line of a script: the answer in one line, nothing where the line is empty or a comment,
-/// and `error` with the reason where it cannot be read.
-pub fn play(heap: Global, line: &str) -> Result<String, Fault> {
+/// and `error` with the reason where it cannot be read. Only for want of memory is there no answer.
+pub fn play(heap: Global, line: &str) -> Result<String, Fault>
+    ensures { λ r. ⌜ refused r (λ fault. fault ≡ NoMemory) ⌝ }
+{
     let parts = parts(heap, line)?;
     let mut out = String::new(heap);
     match play_parts(heap, &parts, &mut out) {
