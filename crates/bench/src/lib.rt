@@ -1,5 +1,7 @@
 //! Rehearsal scripts: reading their lines, playing them, and printing the answers.
 
+#![tactic(auto)]
+
 pub mod faults;
 pub mod numerals;
 mod parsing;

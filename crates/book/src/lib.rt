@@ -1,4 +1,7 @@
 //! The block book, in places that the caller hands in.
+
+#![tactic(auto)]
+
 ghost use Rattle.std.specs.Prelude.{◌≡◌, ℕ, ◌+◌, min, true, [], ◌∷◌, ◌++◌, length, None};
 ghost use Rattle.model.specs.declared.names.Name.{Name as NameT};
 ghost use Rattle.model.specs.Questions.{Answered, first_no};

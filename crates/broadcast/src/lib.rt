@@ -1,5 +1,7 @@
 //! One view's broadcast: what it tells, what changes it, and its two makes, all-to-all and relayed.
 
+#![tactic(auto)]
+
 ghost use Rattle.std.specs.Prelude.{◌≡◌};
 ghost use Rattle.std.specs.Option.{option_map};
 ghost use Rattle.model.specs.Refusals.{number};

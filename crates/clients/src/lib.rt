@@ -1,5 +1,7 @@
 //! Small hosts: how the core's calls are used, and what the compiler keeps a host from doing.
 
+#![tactic(auto)]
+
 ghost use Rattle.std.specs.Prelude.{◌≡◌};
 ghost use Rattle.clients.specs.Offers.{TakesOffer};
 

@@ -1,4 +1,7 @@
 //! Listing the blocks of a chain in their order, and looking up what holds for a sonde.
+
+#![tactic(auto)]
+
 ghost use Rattle.std.specs.Prelude.{◌≡◌};
 ghost use Rattle.model.specs.Chains.{Extended, Listing, last_listed, OneListing, ListingsBegin, ListingsStay};
 ghost use Rattle.model.specs.Examples.{WorkedListing};

@@ -1,4 +1,7 @@
 //! Plays books and lists, and writes what a launch crew reads of them.
+
+#![tactic(auto)]
+
 use book::Book;
 use listing::{extend, lookup};
 use model::{Added, BackboneBlock, Block, Entry, Name, Parent, References, SideBlock};

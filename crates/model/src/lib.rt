@@ -1,5 +1,7 @@
 //! What all layers share: names, blocks, statements and refusals, and the numbers, quorums and votes of one view.
 
+#![tactic(auto)]
+
 pub mod answers;
 pub mod blocks;
 pub mod names;

@@ -1,4 +1,7 @@
 //! The order in which side blocks are listed: what an order is, and the two in use.
+
+#![tactic(auto)]
+
 ghost use Rattle.std.specs.Prelude.{◌≡◌, Bool};
 ghost use Rattle.model.specs.Orders.{Before, Lawful, by_author, by_sonde, name_before, then_by, sonde_of, sort_of};
 ghost use Rattle.model.proofs.OrderLaws.{by_author_lawful, by_sonde_lawful};

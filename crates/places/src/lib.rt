@@ -1,4 +1,7 @@
 //! One bounded list over places that the caller hands in: the outbox and the committed list are such lists.
+
+#![tactic(auto)]
+
 ghost use Rattle.std.specs.Prelude.{◌≡◌, ℕ, ◌+◌, ◌<◌, ◌≤◌, [], ◌∷◌, ◌++◌, length, if◌then◌else◌, nat_le, nat_lt};
 ghost use Rattle.std.specs.List.{slice_get};
 ghost use Rattle.places.specs.Held.{held, standing, beyond, bound, rest};

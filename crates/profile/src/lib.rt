@@ -1,4 +1,7 @@
 //! What a profile program does with a lookup: it converts a sonde's raw values with the constants of its certificate, or passes the sonde over.
+
+#![tactic(auto)]
+
 ghost use Rattle.std.specs.Prelude.{◌≡◌};
 ghost use Rattle.model.specs.Lookups.{entries, holding, lookup_questions};
 ghost use Rattle.model.specs.Questions.{Answered};

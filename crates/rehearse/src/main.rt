@@ -1,5 +1,7 @@
 //! Plays a rehearsal script, from the file named or from standard input, and prints an answer for each line.
 
+#![tactic(auto)]
+
 use anyhow::anyhow;
 use bench::play;
 use std::io::Read;

@@ -1,6 +1,8 @@
 //! One station over any broadcast: its calls, each answered by the first question that is answered no, or accepted. A call is handed the
 //! book or the outbox where it uses them, and changes nothing where it refuses.
 
+#![tactic(auto)]
+
 mod add;
 mod certificate;
 mod claim;

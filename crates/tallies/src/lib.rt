@@ -1,5 +1,7 @@
 //! Loops over claims: which stations claim, which have a kept claim, and whether the heights are in range.
 
+#![tactic(auto)]
+
 ghost use Rattle.std.specs.Prelude.{◌≡◌};
 ghost use Rattle.model.specs.Claims.{claimants as claimants-of, keepers as keepers-of, heights_below, ClaimLaws};
 ghost use Rattle.model.specs.Quorums.{stations};

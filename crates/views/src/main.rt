@@ -1,5 +1,7 @@
 //! Plays a view of each make, with four stations and with seven, and prints what a launch crew reads.
 
+#![tactic(auto)]
+
 use broadcast::{AllToAll, Broadcast, Observe, Relayed};
 use model::{Grade, Name, Numbers, Refusal, SecondVote};
 use std::io;

@@ -1,5 +1,7 @@
 //! Messages in words of 32 bits.
 
+#![tactic(auto)]
+
 mod claims;
 mod kinds;
 mod laws;
