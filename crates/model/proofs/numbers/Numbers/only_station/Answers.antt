@@ -4,8 +4,8 @@ use Rattle.model.specs.Quorums.{stations}
 use Rattle.model.proofs.Masks.{one_station, pow_below}
 use Rattle.model.proofs.numbers.Numbers.only_station.Goals as goal
 
-pub returns-then-is-within : goal.returns-then-is-within
-returns-then-is-within c =
+pub returns-then-is_within : goal.returns-then-is_within
+returns-then-is_within c =
     let s = c.args.self in
     let k = c.args.mask in
     let o : ones k ≡ 1 = search rules in
