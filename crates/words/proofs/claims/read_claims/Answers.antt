@@ -7,8 +7,8 @@ loop-i-init c = read_none c.args.words.now c.args.claims.now
 
 pub loop-i-preserved : goal.loop-i-preserved
 loop-i-preserved c =
-    read_more c.args.words.now c.args.claims.now c.loop-i.claims c.loop-i.i _ (sym c.if-not-hold-claims.ensures)
-    (omega arith) (omega arith) c.loop-i.invariant c.value-of.ensures.0 c.value-of-in-loop-i.ensures.0 (search rules)
+    read_more c.args.words.now c.args.claims.now c.loop-i.claims c.loop-i.i _ (sym c.if-not-hold_claims.ensures)
+    (omega arith) (omega arith) c.loop-i.invariant c.value_of.ensures.0 c.value_of-in-loop-i.ensures.0 (search rules)
 
 pub returns : goal.returns
 returns c =

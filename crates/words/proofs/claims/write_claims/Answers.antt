@@ -4,18 +4,18 @@ use Rattle.words.specs.Places.{placed}
 use Rattle.words.proofs.ClaimWords.{zeros, claim_words, small_more, length_of_claims, placed_claim, placed_all}
 use Rattle.words.proofs.claims.write_claims.Goals as goal
 
-pub word-of-requires : goal.word-of-requires
-word-of-requires c = let e = small_more c.args.claims.now c.loop-i.i c.loop-i-test.true in search rules
+pub word_of-requires : goal.word_of-requires
+word_of-requires c = let e = small_more c.args.claims.now c.loop-i.i c.loop-i-test.true in search rules
 
-pub word-of-requires-in-loop-i : goal.word-of-requires-in-loop-i
-word-of-requires-in-loop-i c = let e = small_more c.args.claims.now c.loop-i.i c.loop-i-test.true in search rules
+pub word_of-requires-in-loop-i : goal.word_of-requires-in-loop-i
+word_of-requires-in-loop-i c = let e = small_more c.args.claims.now c.loop-i.i c.loop-i-test.true in search rules
 
 pub loop-i-preserved : goal.loop-i-preserved
 loop-i-preserved c =
     let cs = c.args.claims.now in
     let i = c.loop-i.i in
     let old = c.loop-i.words in
-    let part : List ℕ = c.word-of.result ∷ c.word-of-in-loop-i.result ∷ [] in
+    let part : List ℕ = c.word_of.result ∷ c.word_of-in-loop-i.result ∷ [] in
     let same : part ≡ claim_words (get_or cs i zeros) = search rules in
     let next : 2 * (i + 1) ≡ 2 * i + 2 = omega arith in
     let room : 2 * i ≤ length old = omega arith in

@@ -6,8 +6,8 @@ pub returns-then-i-kinds : goal.returns-then-i-kinds
 returns-then-i-kinds c =
     let e = kinds_over c.args.kinds.now c.args.words.now c.loop-i.i c.if-i-kinds.true c.loop-i-test.true in search rules
 
-pub returns-then-kind-of-kinds : goal.returns-then-kind-of-kinds
-returns-then-kind-of-kinds c =
+pub returns-then-kind_of-kinds : goal.returns-then-kind_of-kinds
+returns-then-kind_of-kinds c =
     let e = kinds_more c.args.kinds.now c.args.words.now c.loop-i.i c.if-i-kinds.false c.loop-i-test.true in search rules
 
 pub loop-i-preserved : goal.loop-i-preserved

@@ -5,14 +5,14 @@ use Rattle.words.proofs.Bodies.{backbone_body}
 use Rattle.words.proofs.Fronts.{kinds_at_four, kinds_of_rest}
 use Rattle.words.proofs.reading.backbone.Goals as goal
 
-pub name-from-requires : goal.name-from-requires
-name-from-requires c =
+pub name_from-requires : goal.name_from-requires
+name_from-requires c =
     let ws = c.args.words.now in
     let l : 11 ≤ length ws = search rules in
     kinds_at_four (kinds_of Backbone) ws 0 c.requires.1 (omega arith)
 
-pub name-from-requires-2 : goal.name-from-requires-2
-name-from-requires-2 c =
+pub name_from-requires-2 : goal.name_from-requires-2
+name_from-requires-2 c =
     let ws = c.args.words.now in
     let l : 11 ≤ length ws = search rules in
     kinds_at_four (kinds_of Backbone) ws 7 c.requires.1 (omega arith)
@@ -26,6 +26,6 @@ pub returns : goal.returns
 returns c =
     let ws = c.args.words.now in
     let l : 11 ≤ length ws = search rules in
-    let e = backbone_body ws _ _ _ _ _ _ c.requires.1 l c.name-from.ensures.words c.value-of.ensures.0 c.value-of-2.ensures.0
-    c.value-of-3.ensures.0 c.name-from-2.ensures.words c.references.ensures.0 in
+    let e = backbone_body ws _ _ _ _ _ _ c.requires.1 l c.name_from.ensures.words c.value_of.ensures.0 c.value_of-2.ensures.0
+    c.value_of-3.ensures.0 c.name_from-2.ensures.words c.references.ensures.0 in
     record { layout = refl; whole = search rules; same = e }

@@ -5,8 +5,8 @@ use Rattle.words.proofs.reading.references.Goals as goal
 pub loop-left-init : goal.loop-left-init
 loop-left-init c = found_none c.args.words.now c.requires.2
 
-pub name-from-requires : goal.name-from-requires
-name-from-requires c =
+pub name_from-requires : goal.name_from-requires
+name_from-requires c =
     let left = c.loop-left.left.now in
     let h : 4 ≤ length left = search rules in
     let k = (four_words left h c.loop-left.invariant.kinds).kinds in
@@ -16,7 +16,7 @@ pub loop-left-preserved : goal.loop-left-preserved
 loop-left-preserved c =
     let left = c.loop-left.left.now in
     let h : 4 ≤ length left = search rules in
-    found_more c.args.words.now left _ _ c.name-from.result c.loop-left.invariant h c.name-from.ensures.words c.name-from.ensures.small c.in-Some.ensures
+    found_more c.args.words.now left _ _ c.name_from.result c.loop-left.invariant h c.name_from.ensures.words c.name_from.ensures.small c.in-Some.ensures
 
 pub returns : goal.returns
 returns c =

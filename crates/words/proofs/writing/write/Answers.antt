@@ -8,4 +8,4 @@ returns-in-Backbone c =
     let s = said c.args.message.now in
     let f : fits s ≡ true = search rules in
     let l : length (encoded s) ≤ length c.args.words.now = search rules in
-    accepted s _ _ _ _ f l (ap said c.in-Backbone.is) c.write-backbone.ensures
+    accepted s _ _ _ _ f l (ap said c.in-Backbone.is) c.write_backbone.ensures

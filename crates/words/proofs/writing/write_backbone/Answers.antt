@@ -9,10 +9,10 @@ use Rattle.words.proofs.writing.write_backbone.Goals as goal
 pub returns : goal.returns
 returns c =
     let l = length_of_names (referred c.args.block.references) in
-    let n = c.words-of-name.result in
-    let p = c.words-of-name-2.result in
-    let front : List ℕ = c.head-of.result ∷ get_or n 0 0 ∷ get_or n 1 0 ∷ get_or n 2 0 ∷ get_or n 3 0
-    ∷ c.word-of-author.result ∷ c.word-of-view.result ∷ c.word-of-below.result
+    let n = c.words_of_name.result in
+    let p = c.words_of_name-2.result in
+    let front : List ℕ = c.head_of.result ∷ get_or n 0 0 ∷ get_or n 1 0 ∷ get_or n 2 0 ∷ get_or n 3 0
+    ∷ c.word_of-author.result ∷ c.word_of-view.result ∷ c.word_of-below.result
     ∷ get_or p 0 0 ∷ get_or p 1 0 ∷ get_or p 2 0 ∷ get_or p 3 0 ∷ [] in
     let e : encoded (backbone c.args.block) ≡ front ++ names_words (referred c.args.block.references) = search rules in
-    two_parts front _ _ _ _ _ _ c.put.ensures c.put-names.ensures e (search rules)
+    two_parts front _ _ _ _ _ _ c.put.ensures c.put_names.ensures e (search rules)

@@ -26,12 +26,12 @@ insert-requires c =
     record {
       within = omega (arith, c.in-Err.ensures.0);
       room = omega arith;
-      index-room = omega arith;
+      index_room = omega arith;
       few = omega arith;
     }
 
-pub invariant-of-self : goal.invariant-of-self
-invariant-of-self c =
+pub invariant_of-self : goal.invariant_of-self
+invariant_of-self c =
     let b = c.args.self.now in
     let k = c.in-Err.k in
     let e = c.insert.ensures in
@@ -46,7 +46,7 @@ invariant-of-self c =
     let q = subst (λ l. Indexed l (take c.insert.new.self.len c.insert.new.self.index.now)) (sym e.blocks) (subst (Indexed (bs ++ (c.args.block ∷ []))) (sym at) p) in (
       omega (arith, e.len, e.places),
       (
-        omega (arith, e.len, e.index-places, length-take b.rows.len b.rows.index.now),
+        omega (arith, e.len, e.index_places, length-take b.rows.len b.rows.index.now),
         (
           omega (arith, e.len),
           (subst Sound (sym e.blocks) (sound_push bs c.args.block b.sound c.requires.joins), (q.ranged, (q.rises, (q.covers, tt)))),
@@ -57,12 +57,12 @@ invariant-of-self c =
 pub returns-in-Err : goal.returns-in-Err
 returns-in-Err c =
     let e = c.insert.ensures in
-    record { blocks = e.blocks; bound = ap (λ m. min 4096 (min m (length c.insert.new.self.index.now))) e.places ∙ ap (λ m. min 4096 (min (length c.args.self.now.rows.blocks.now) m)) e.index-places }
+    record { blocks = e.blocks; bound = ap (λ m. min 4096 (min m (length c.insert.new.self.index.now))) e.places ∙ ap (λ m. min 4096 (min (length c.args.self.now.rows.blocks.now) m)) e.index_places }
 
-pub returns-in-default : goal.returns-in-default
-returns-in-default c =
+pub returns-in_default : goal.returns-in_default
+returns-in_default c =
     let b = c.args.self.now in
-    let k = c.in-default.field-0 in
+    let k = c.in_default.field-0 in
     let ok : Indexed (blocks_of b) (index_of b) = record { ranged = b.ranged; rises = b.rises; covers = b.covers } in
-    let s = sought_in (Ok k) c.shelf.ensures.blocks c.shelf.ensures.index c.name.ensures c.in-default.ensures in
+    let s = sought_in (Ok k) c.shelf.ensures.blocks c.shelf.ensures.index c.name.ensures c.in_default.ensures in
     absurd (found_none (blocks_of b) (index_of b) ok b.sound (name_of c.args.block) k s.0 s.1 (none_from (book_of b (name_of c.args.block)) (joins_new (book_of b) c.args.block c.requires.joins)))

@@ -12,7 +12,7 @@ loop-i-preserved c =
     let i : ℕ = c.loop-i.i - 1 in
     let e : c.loop-i.i ≡ i + 1 = omega arith in
     let o = subst (λ j. Opened xs ys j n) e c.loop-i.invariant.2 in
-    let m = opened_more xs ys i n (get_or ys i 0) (omega (arith, c.requires.index-room)) (λ d. get_or_default ys i 0 d (omega (arith, o.long, c.requires.index-room))) o in
+    let m = opened_more xs ys i n (get_or ys i 0) (omega (arith, c.requires.index_room)) (λ d. get_or_default ys i 0 d (omega (arith, o.long, c.requires.index_room))) o in
     (omega arith, omega arith, subst (λ j. Opened xs (set ys j (get_or ys i 0)) i n) (sym e) m, c.loop-i.invariant.3, c.loop-i.invariant.4)
 
 pub returns : goal.returns
@@ -25,7 +25,7 @@ returns c =
     record {
       len = ap (λ m. m + 1) n;
       blocks = ap (λ m. take (m + 1) (set l.self.blocks.now m c.args.block)) n ∙ ap (λ b. take (s.len + 1) (set b s.len c.args.block)) l.invariant.4 ∙ take_more_set s.blocks.now s.len c.args.block c.requires.room;
-      index = ap (λ m. take (m + 1) (set l.self.index.now c.args.k m)) n ∙ opened_inserts s.index.now l.self.index.now c.args.k s.len s.len c.requires.within c.requires.index-room o;
+      index = ap (λ m. take (m + 1) (set l.self.index.now c.args.k m)) n ∙ opened_inserts s.index.now l.self.index.now c.args.k s.len s.len c.requires.within c.requires.index_room o;
       places = length-set l.self.blocks.now l.self.len c.args.block ∙ ap length l.invariant.4;
-      index-places = length-set l.self.index.now c.args.k l.self.len ∙ o.long;
+      index_places = length-set l.self.index.now c.args.k l.self.len ∙ o.long;
     }
