@@ -15,20 +15,20 @@ last a b c d e f h = search rules
 for_want : (a b : Bool) (n : ℕ) → a ≡ true → first_no ((24, a) ∷ (25, b) ∷ []) ≡ Some n → (n ≡ 25) × (b ≡ false)
 for_want a b n e h = search rules
 
-pub returns-in-err-offer : goal.returns-in-err-offer
-returns-in-err-offer c =
-    let p = err_from_is_err_and c.from-residual.result c.from-residual.ensures.1 in
-    let h = c.in-err-offer.ensures in
+pub returns-in_err-offer : goal.returns-in_err-offer
+returns-in_err-offer c =
+    let p = err_from_is_err_and c.from_residual.result c.from_residual.ensures.1 in
+    let h = c.in_err-offer.ensures in
     rw (p.1, p.2) (inl (h.0, λ o cs w. h.1 (offer o cs) w), refl, refl)
 
-pub returns-in-err-count : goal.returns-in-err-count
-returns-in-err-count c =
-    let p = err_from_is_err_and c.from-residual-in-err-count.result c.from-residual-in-err-count.ensures.1 in
-    let h = c.in-err-count.ensures in
+pub returns-in_err-count : goal.returns-in_err-count
+returns-in_err-count c =
+    let p = err_from_is_err_and c.from_residual-in_err-count.result c.from_residual-in_err-count.ensures.1 in
+    let h = c.in_err-count.ensures in
     let cs = c.in-Offer.claims.now in
     let w : WordsOf (offer c.in-Offer.offer cs) c.args.words.now = search rules in
     let o = c.in-Offer.offer in
     let a : are_claims cs ≡ true = last (small o.station) (small o.view) (small_name o.name) (small o.grade) (small o.mask) (are_claims cs) w.whole in
-    let f = for_want (are_claims cs) (leb (length cs) (2 * length c.args.places.now)) (number c.in-err-count.field-0.0) a h.0 in
+    let f = for_want (are_claims cs) (leb (length cs) (2 * length c.args.places.now)) (number c.in_err-count.field-0.0) a h.0 in
     let l : 2 * length c.args.places.now < length cs = search rules in
     rw (p.1, p.2) (inr (f.0, (c.in-Offer.offer, cs, w, l)), refl, h.1)

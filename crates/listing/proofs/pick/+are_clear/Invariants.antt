@@ -2,5 +2,5 @@ use Rattle.std.proofs.Common.{length}
 use Rattle.model.specs.Blocks.{referred}
 use Rattle.listing.proofs.pick.+are_clear.Given as goal
 
-abbrev pub decreases-are-clear : goal.decreases-are-clear
-decreases-are-clear l = length (referred l.references)
+abbrev pub decreases-are_clear : goal.decreases-are-clear
+decreases-are_clear l = length (referred l.references)

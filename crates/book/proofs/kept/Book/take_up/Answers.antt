@@ -43,16 +43,16 @@ invariant_of-self c =
     let n : length bs ≡ b.rows.len = omega (arith, length-take b.rows.len b.rows.blocks.now, b.within) in
     let p = indexed_push bs ix ok c.args.block k s.0 s.1 s.2 in
     let at = e.index ∙ ap (insert ix k) (sym n) in
-    let q = subst (λ l. Indexed l (take c.insert.new.self.len c.insert.new.self.index.now)) (sym e.blocks) (subst (Indexed (bs ++ (c.args.block ∷ []))) (sym at) p) in (
-      omega (arith, e.len, e.places),
-      (
-        omega (arith, e.len, e.index_places, length-take b.rows.len b.rows.index.now),
-        (
-          omega (arith, e.len),
-          (subst Sound (sym e.blocks) (sound_push bs c.args.block b.sound c.requires.joins), (q.ranged, (q.rises, (q.covers, tt)))),
-        ),
-      ),
-    )
+    let q = subst (λ l. Indexed l (take c.insert.new.self.len c.insert.new.self.index.now)) (sym e.blocks) (subst (Indexed (bs ++ (c.args.block ∷ []))) (sym at) p) in
+    record {
+      within = omega (arith, e.len, e.places);
+      index_within = omega (arith, e.len, e.index_places, length-take b.rows.len b.rows.index.now);
+      few = omega (arith, e.len);
+      sound = subst Sound (sym e.blocks) (sound_push bs c.args.block b.sound c.requires.joins);
+      ranged = q.ranged;
+      rises = q.rises;
+      covers = q.covers;
+    }
 
 pub returns-in-Err : goal.returns-in-Err
 returns-in-Err c =
