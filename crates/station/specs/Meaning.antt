@@ -1,5 +1,4 @@
 -- What a station means, with its outbox, and what a ground tells. Assumes nothing.
-use Rattle.std.specs.Borrow.{Bor}
 use Rattle.places.specs.declared.list.Bounded.{Bounded}
 use Rattle.places.specs.Held.{held, bound}
 use Rattle.model.specs.declared.states.Sent.{Sent}
@@ -15,13 +14,6 @@ module _ {B : Type 0} (cast : Ghosts B) where
 
   abbrev pub desk_of : Station B → Bounded Sent 32 → Desk
   desk_of s out = record { core = core_of s; out = held out; room = bound out }
-
-  -- behind references, at entry or exit
-  abbrev pub core : Bor (Station B) → Core
-  core s = core_of s.now
-
-  abbrev pub desk : Bor (Station B) → Bor (Bounded Sent 32) → Desk
-  desk s out = desk_of s.now out.now
 
 abbrev pub tells : Ground → Grounds
 tells g = record { view = g.view; parent = g.parent }

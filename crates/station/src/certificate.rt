@@ -2,7 +2,7 @@ ghost use Rattle.std.specs.Prelude.{◌≡◌};
 ghost use Rattle.model.specs.Questions.{Judged};
 ghost use Rattle.model.specs.Certifying.{taking, certificate_questions, CertificateCall};
 ghost use Rattle.book.specs.Meaning.{book_of};
-ghost use Rattle.station.specs.Meaning.{core};
+ghost use Rattle.station.specs.Meaning.{core_of};
 
 use crate::ranges::{grade_fits, name_fits, some_stations, view_fits};
 use crate::stations::Station;
@@ -24,7 +24,7 @@ pub(crate) fn take_up(state: &mut State, certificate: Certificate)
 
 impl<B: Broadcast> Station<B> {
     fn judge_certificate(&self, book: &Book<'_>, certificate: Certificate) -> Result<(), Refusal>
-        ensures { Judged (certificate_questions (core B.Observe self.entry) (book_of book.now) certificate) (λ _. Unit {0}) result }
+        ensures { Judged (certificate_questions (core_of B.Observe self.now) (book_of book.now) certificate) (λ _. Unit {0}) result }
     {
         let numbers = self.cast.numbers();
         if !some_stations(numbers, certificate.mask) {
@@ -47,7 +47,7 @@ impl<B: Broadcast> Station<B> {
 
     /// Takes up a certificate of a held block.
     pub fn certificate(&mut self, book: &Book<'_>, certificate: Certificate) -> Result<(), Refusal>
-        ensures { CertificateCall (core B.Observe self.entry) (book_of book.now) certificate (core B.Observe self.exit) result }
+        ensures { CertificateCall (core_of B.Observe self.old) (book_of book.now) certificate (core_of B.Observe self.new) result }
     {
         self.judge_certificate(book, certificate)?;
         take_up(&mut self.state, certificate);

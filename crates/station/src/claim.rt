@@ -1,7 +1,7 @@
 ghost use Rattle.std.specs.Prelude.{◌<◌};
 ghost use Rattle.model.specs.Questions.{Judged};
 ghost use Rattle.model.specs.Claiming.{claim_questions, ClaimCall};
-ghost use Rattle.station.specs.Meaning.{core};
+ghost use Rattle.station.specs.Meaning.{core_of};
 
 use crate::ranges::view_fits;
 use crate::stations::Station;
@@ -10,7 +10,7 @@ use model::{Claim, Refusal};
 
 impl<B: Broadcast> Station<B> {
     fn judge_claim(&self, claim: Claim) -> Result<(), Refusal>
-        ensures { Judged (claim_questions (core B.Observe self.entry) claim) (λ _. claim.station < 28) result }
+        ensures { Judged (claim_questions (core_of B.Observe self.now) claim) (λ _. claim.station < 28) result }
     {
         if claim.station >= self.cast.numbers().stations() {
             return Err(Refusal::NoSuchStation);
@@ -36,7 +36,7 @@ impl<B: Broadcast> Station<B> {
 
     /// Keeps a claim of the view before the current one.
     pub fn claim(&mut self, claim: Claim) -> Result<(), Refusal>
-        ensures { ClaimCall (core B.Observe self.entry) claim (core B.Observe self.exit) result }
+        ensures { ClaimCall (core_of B.Observe self.old) claim (core_of B.Observe self.new) result }
     {
         self.judge_claim(claim)?;
         self.state.claims[claim.station as usize] = Some(claim.height);

@@ -1,6 +1,6 @@
 ghost use Rattle.model.specs.Questions.{Judged};
 ghost use Rattle.model.specs.Passing.{leave_questions, LeaveCall};
-ghost use Rattle.station.specs.Meaning.{desk};
+ghost use Rattle.station.specs.Meaning.{desk_of};
 
 use crate::stations::Station;
 use broadcast::{Broadcast, Observe};
@@ -12,7 +12,7 @@ const LAST_VIEW: u32 = 0xfff_ffff;
 
 impl<B: Broadcast> Station<B> {
     fn judge_leave(&self, out: &Bounded<'_, Sent, 32>) -> Result<(), Refusal>
-        ensures { Judged (leave_questions (desk B.Observe self.entry out.entry)) (λ _. Unit {0}) result }
+        ensures { Judged (leave_questions (desk_of B.Observe self.now out.now)) (λ _. Unit {0}) result }
     {
         if !out.has_room(2) {
             return Err(Refusal::NoPlaces);
@@ -36,7 +36,7 @@ impl<B: Broadcast> Station<B> {
     /// Opens the view after the larger of view and height, drops the kept claims, and answers the view opened. Where the height had reached the
     /// old view it sends the highest certificate.
     pub fn leave(&mut self, out: &mut Bounded<'_, Sent, 32>) -> Result<u32, Refusal>
-        ensures { LeaveCall (desk B.Observe self.entry out.entry) (desk B.Observe self.exit out.exit) result }
+        ensures { LeaveCall (desk_of B.Observe self.old out.old) (desk_of B.Observe self.new out.new) result }
     {
         self.judge_leave(out)?;
         let view = self.cast.view();

@@ -4,7 +4,7 @@ ghost use Rattle.model.specs.Questions.{Judged};
 ghost use Rattle.model.specs.Stations.{sent, own_voice};
 ghost use Rattle.model.specs.Voting.{offered_form, offered_fit, offered_questions, from_leader, parent_certified, skips_claimed, OfferCall};
 ghost use Rattle.book.specs.Meaning.{book_of};
-ghost use Rattle.station.specs.Meaning.{core, desk};
+ghost use Rattle.station.specs.Meaning.{core_of, desk_of};
 ghost use Rattle.station.specs.Ready.{MayVote};
 
 use crate::ranges::{grade_fits, name_fits, view_fits};
@@ -21,7 +21,7 @@ const MOST_CLAIMS: usize = 28;
 impl<B: Broadcast> Station<B> {
     // The station's own voice.
     pub(crate) fn own_voice(&self, grade: u32, name: Name) -> Sent
-        ensures { result ≡ sent (own_voice (core B.Observe self.entry) grade name) }
+        ensures { result ≡ sent (own_voice (core_of B.Observe self.now) grade name) }
     {
         Sent::Voices(Voices {
             grade,
@@ -33,21 +33,21 @@ impl<B: Broadcast> Station<B> {
 
     // Whether the sender leads the view and made the block.
     fn is_from_leader(&self, offer: Offer, block: BackboneBlock) -> bool
-        ensures { result ≡ from_leader (core B.Observe self.entry) offer (Some (Backbone block)) }
+        ensures { result ≡ from_leader (core_of B.Observe self.now) offer (Some (Backbone block)) }
     {
         self.cast.numbers().leader(offer.view) == offer.station && block.author == offer.station
     }
 
     // Whether the parent is genesis, or the mask holds a quorum.
     fn is_parent_certified(&self, offer: Offer, block: BackboneBlock) -> bool
-        ensures { result ≡ parent_certified (core B.Observe self.entry) offer (Some (Backbone block)) }
+        ensures { result ≡ parent_certified (core_of B.Observe self.now) offer (Some (Backbone block)) }
     {
         block.parent.view == 0 || self.cast.numbers().holds_quorum(offer.mask)
     }
 
     // Whether the parent is of the view before, or a quorum claims to know no certificate above it.
     fn are_skips_claimed(&self, offer: Offer, claims: &[OfferClaim], block: BackboneBlock) -> bool
-        ensures { result ≡ skips_claimed (core B.Observe self.entry) offer claims.now (Some (Backbone block)) }
+        ensures { result ≡ skips_claimed (core_of B.Observe self.now) offer claims.now (Some (Backbone block)) }
     {
         let numbers = self.cast.numbers();
         let parent = block.parent.view;
@@ -57,7 +57,7 @@ impl<B: Broadcast> Station<B> {
 
     // The questions on the offer's form.
     fn judge_offered_form(&self, offer: Offer, claims: &[OfferClaim]) -> Result<(), Refusal>
-        ensures { Judged (offered_form (core B.Observe self.entry) offer claims.now) (λ _. Unit {0}) result }
+        ensures { Judged (offered_form (core_of B.Observe self.now) offer claims.now) (λ _. Unit {0}) result }
     {
         if offer.station >= self.cast.numbers().stations() {
             return Err(Refusal::NoSuchStation);
@@ -86,8 +86,8 @@ impl<B: Broadcast> Station<B> {
         offer: Offer,
         claims: &[OfferClaim],
     ) -> Result<(), Refusal>
-        ensures { Judged (offered_fit (desk B.Observe self.entry out.entry) (book_of book.now) offer claims.now)
-            (λ _. MayVote (desk B.Observe self.entry out.entry)) result }
+        ensures { Judged (offered_fit (desk_of B.Observe self.now out.now) (book_of book.now) offer claims.now)
+            (λ _. MayVote (desk_of B.Observe self.now out.now)) result }
     {
         let Some(Block::Backbone(block)) = book.find(offer.name) else {
             return Err(Refusal::NotHeld);
@@ -120,8 +120,8 @@ impl<B: Broadcast> Station<B> {
         offer: Offer,
         claims: &[OfferClaim],
     ) -> Result<(), Refusal>
-        ensures { Judged (offered_questions (desk B.Observe self.entry out.entry) (book_of book.now) offer claims.now)
-            (λ _. MayVote (desk B.Observe self.entry out.entry)) result }
+        ensures { Judged (offered_questions (desk_of B.Observe self.now out.now) (book_of book.now) offer claims.now)
+            (λ _. MayVote (desk_of B.Observe self.now out.now)) result }
     {
         match self.judge_offered_form(offer, claims) {
             Err(no) => Err(no),
@@ -137,8 +137,8 @@ impl<B: Broadcast> Station<B> {
         offer: Offer,
         claims: &[OfferClaim],
     ) -> Result<(), Refusal>
-        ensures { OfferCall (desk B.Observe self.entry out.entry) (book_of book.now) offer claims.now
-            (desk B.Observe self.exit out.exit) result }
+        ensures { OfferCall (desk_of B.Observe self.old out.old) (book_of book.now) offer claims.now
+            (desk_of B.Observe self.new out.new) result }
     {
         self.judge_offered(book, out, offer, claims)?;
         self.cast.offer(offer.name)?;

@@ -1,10 +1,10 @@
 ghost use Rattle.std.specs.Prelude.{◌≡◌, ◌+◌, ◌<◌, ◌≤◌, length};
 ghost use Rattle.model.specs.Questions.{Judged};
 ghost use Rattle.model.specs.Stations.{posted};
-ghost use Rattle.model.specs.Voting.{grade_at, gave as gave-of, voices_form, voices_fit, voices_questions, completing, relay_posts, VoicesCall};
+ghost use Rattle.model.specs.Voting.{grade_at, gave as gave_of, voices_form, voices_fit, voices_questions, completing, relay_posts, VoicesCall};
 ghost use Rattle.places.specs.Held.{held, bound};
 ghost use Rattle.book.specs.Meaning.{book_of};
-ghost use Rattle.station.specs.Meaning.{core, desk};
+ghost use Rattle.station.specs.Meaning.{core_of, desk_of};
 ghost use Rattle.station.specs.Ready.{MayHear, gives};
 
 use crate::certificate::take_up;
@@ -24,7 +24,7 @@ fn grade_at(number: u32) -> Grade
 
 // The second vote that was given between two moments.
 fn gave(before: SecondVote, now: SecondVote) -> Option<Name>
-    ensures { result ≡ gave-of before now }
+    ensures { result ≡ gave_of before now }
 {
     match (before, now) {
         (SecondVote::Waiting, SecondVote::Given(name)) => Some(name),
@@ -35,7 +35,7 @@ fn gave(before: SecondVote, now: SecondVote) -> Option<Name>
 impl<B: Broadcast> Station<B> {
     // The questions on the form of the voices.
     fn judge_voices_form(&self, voices: Voices) -> Result<(), Refusal>
-        ensures { Judged (voices_form (core B.Observe self.entry) voices) (λ _. Unit {0}) result }
+        ensures { Judged (voices_form (core_of B.Observe self.now) voices) (λ _. Unit {0}) result }
     {
         if !some_stations(self.cast.numbers(), voices.mask) {
             return Err(Refusal::NoSuchStation);
@@ -60,8 +60,8 @@ impl<B: Broadcast> Station<B> {
         out: &Bounded<'_, Sent, 32>,
         voices: Voices,
     ) -> Result<(), Refusal>
-        ensures { Judged (voices_fit B.Observe.fits B.Observe.free (desk B.Observe self.entry out.entry) (book_of book.now) voices)
-            (λ _. MayHear B.Observe.fits B.Observe.free (desk B.Observe self.entry out.entry) voices) result }
+        ensures { Judged (voices_fit B.Observe.fits B.Observe.free (desk_of B.Observe self.now out.now) (book_of book.now) voices)
+            (λ _. MayHear B.Observe.fits B.Observe.free (desk_of B.Observe self.now out.now) voices) result }
     {
         if !book.holds_backbone(voices.name, voices.view) {
             return Err(Refusal::NotHeld);
@@ -82,8 +82,8 @@ impl<B: Broadcast> Station<B> {
         out: &Bounded<'_, Sent, 32>,
         voices: Voices,
     ) -> Result<(), Refusal>
-        ensures { Judged (voices_questions B.Observe.fits B.Observe.free (desk B.Observe self.entry out.entry) (book_of book.now) voices)
-            (λ _. MayHear B.Observe.fits B.Observe.free (desk B.Observe self.entry out.entry) voices) result }
+        ensures { Judged (voices_questions B.Observe.fits B.Observe.free (desk_of B.Observe self.now out.now) (book_of book.now) voices)
+            (λ _. MayHear B.Observe.fits B.Observe.free (desk_of B.Observe self.now out.now) voices) result }
     {
         match self.judge_voices_form(voices) {
             Err(no) => Err(no),
@@ -94,7 +94,7 @@ impl<B: Broadcast> Station<B> {
     // A second vote given since `before` is certified in grade 1, and sent.
     fn give(&mut self, out: &mut Bounded<'_, Sent, 32>, before: SecondVote)
         requires { length (held out.old) < bound out.old }
-        ensures after { desk B.Observe self.exit out.exit ≡ gives (gave-of before (B.Observe.meaning self.old.cast).second) (desk B.Observe self.entry out.entry) }
+        ensures after { desk_of B.Observe self.new out.new ≡ gives (gave_of before (B.Observe.meaning self.old.cast).second) (desk_of B.Observe self.old out.old) }
         ensures few { length (held out.new) ≤ length (held out.old) + 1 }
     {
         if let Some(name) = gave(before, self.cast.second()) {
@@ -113,7 +113,7 @@ impl<B: Broadcast> Station<B> {
 
     // A view that is complete for the name is certified in grade 2.
     fn complete(&mut self, name: Name)
-        ensures { core B.Observe self.exit ≡ completing name (core B.Observe self.entry) }
+        ensures { core_of B.Observe self.new ≡ completing name (core_of B.Observe self.old) }
     {
         if self.cast.is_complete(name) {
             take_up(
@@ -131,7 +131,7 @@ impl<B: Broadcast> Station<B> {
     // A mask that a Hear handed over is passed on, under the grade and name heard.
     fn relay(&self, out: &mut Bounded<'_, Sent, 32>, voices: Voices, send: Option<u32>)
         requires { length (held out.old) < bound out.old }
-        ensures { desk B.Observe self.entry out.exit ≡ posted (relay_posts (core B.Observe self.entry) voices send) (desk B.Observe self.entry out.entry) }
+        ensures { desk_of B.Observe self.now out.new ≡ posted (relay_posts (core_of B.Observe self.now) voices send) (desk_of B.Observe self.now out.old) }
     {
         if let Some(mask) = send {
             out.put(Sent::Voices(Voices {
@@ -151,8 +151,8 @@ impl<B: Broadcast> Station<B> {
         out: &mut Bounded<'_, Sent, 32>,
         voices: Voices,
     ) -> Result<(), Refusal>
-        ensures { VoicesCall B.Observe.fits B.Observe.free B.Broadcast.hears (desk B.Observe self.entry out.entry) (book_of book.now) voices
-            (desk B.Observe self.exit out.exit) result }
+        ensures { VoicesCall B.Observe.fits B.Observe.free B.Broadcast.hears (desk_of B.Observe self.old out.old) (book_of book.now) voices
+            (desk_of B.Observe self.new out.new) result }
     {
         self.judge_voices(book, out, voices)?;
         let before = self.cast.second();

@@ -3,14 +3,14 @@
 #![tactic(auto)]
 
 ghost use Rattle.std.specs.Prelude.{◌≡◌};
-ghost use Rattle.model.specs.Claims.{claimants as claimants-of, keepers as keepers-of, heights_below, ClaimLaws};
+ghost use Rattle.model.specs.Claims.{claimants as claimants_of, keepers as keepers_of, heights_below, ClaimLaws};
 ghost use Rattle.model.specs.Quorums.{stations};
 
 use model::{Numbers, OfferClaim};
 
 /// The mask of the stations with a claim of height at most `parent`, each once. Claims of others do not count.
 pub fn claimants(numbers: Numbers, parent: u32, claims: &[OfferClaim]) -> u32
-    ensures { result ≡ claimants-of (stations numbers) parent claims.now }
+    ensures { result ≡ claimants_of (stations numbers) parent claims.now }
 {
     let n = numbers.stations();
     let mut mask: u32 = 0;
@@ -36,7 +36,7 @@ pub fn heights_below(claims: &[OfferClaim], limit: u32) -> bool
 
 /// The mask of the stations with a kept claim.
 pub fn keepers(numbers: Numbers, heights: &[Option<u32>; 28]) -> u32
-    ensures { result ≡ keepers-of (stations numbers) heights.now }
+    ensures { result ≡ keepers_of (stations numbers) heights.now }
 {
     let n = numbers.stations() as usize;
     let mut mask: u32 = 0;

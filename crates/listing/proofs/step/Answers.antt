@@ -11,15 +11,15 @@ use Rattle.listing.proofs.step.Goals as goal
 pub returns-then-is : goal.returns-then-is
 returns-then-is g c =
     let K = book_of c.args.book.now in
-    let last : c.last-listed-last.result ≡ last_listed K (held c.args.lines.now) =
-    c.last-listed-last.ensures ∙ ap (λ bs. last_listed (find bs) c.as-slice.result.now) c.shelf-shelf.ensures.blocks ∙ ap (last_listed K) c.as-slice.ensures in
+    let last : c.last_listed-last.result ≡ last_listed K (held c.args.lines.now) =
+    c.last_listed-last.ensures ∙ ap (λ bs. last_listed (find bs) c.as_slice.result.now) c.shelf-shelf.ensures.blocks ∙ ap (last_listed K) c.as_slice.ensures in
     record {
-      answer = inl (same_true c.args.target c.last-listed-last.result (sym c.is.ensures ∙ c.if-is.true) ∙ last, refl, refl);
+      answer = inl (same_true c.args.target c.last_listed-last.result (sym c.is.ensures ∙ c.if-is.true) ∙ last, refl, refl);
       bound = refl;
     }
 
-pub list-block-requires : goal.list-block-requires
-list-block-requires g c =
+pub list_block-requires : goal.list_block-requires
+list_block-requires g c =
     let s = c.shelf-shelf.result in
     let n = c.in-Some.ensures in
     backbone_sides (find s.blocks.now) (book_whole s.blocks.now s.sound) c.in-Some.block.name c.in-Some.block n.held

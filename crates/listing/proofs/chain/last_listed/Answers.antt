@@ -27,4 +27,4 @@ loop-i-preserved c =
     let i : ℕ = c.loop-i.i - 1 in
     let e : c.loop-i.i ≡ i + 1 = omega arith in
     let lt : i < length L = omega arith in
-    c.loop-i.invariant ∙ ap (λ k. last_listed K (take k L)) e ∙ last_below K L i genesis lt (backbone_no (K (get_or L i genesis)) c.in-default.ensures)
+    c.loop-i.invariant ∙ ap (λ k. last_listed K (take k L)) e ∙ last_below K L i genesis lt (backbone_no (K (get_or L i genesis)) c.in_default.ensures)

@@ -46,4 +46,4 @@ returns c =
     let t = c.args.target in
     let l = c.args.last in
     let first = walk_start K w t l c.backbone-at.result c.backbone-at.ensures (same_false t l c.requires) in
-    subst (Walking K t l) c.in-default.is (c.loop-at.invariant t first)
+    subst (Walking K t l) c.in_default.is (c.loop-at.invariant t first)

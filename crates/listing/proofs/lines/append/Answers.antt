@@ -41,7 +41,7 @@ returns g c =
     let w = c.args.waiting.now in
     record {
       listed = λ start sides m.
-          sofar_done g.O.Order.precedes g.met.O.Order.lawful s.blocks.now s.sound start (held c.args.lines.now) (held l.lines) l.marks w (length w) l.invariant.2 (l.invariant.3 start m) c.in-default.ensures sides;
+          sofar_done g.O.Order.precedes g.met.O.Order.lawful s.blocks.now s.sound start (held c.args.lines.now) (held l.lines) l.marks w (length w) l.invariant.2 (l.invariant.3 start m) c.in_default.ensures sides;
       bound = l.invariant.1;
       size = omega (arith, l.invariant.0);
     }

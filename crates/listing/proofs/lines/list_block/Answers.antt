@@ -12,19 +12,19 @@ use Rattle.listing.proofs.lines.list_block.Goals as goal
 pub reach-requires : goal.reach-requires
 reach-requires g c = record { long = c.args.shelf.few; clear = λ j e. both_ways (mark (replicate 4096 false) j) (blank 4096 j) e }
 
-pub returns-then-not-has-room : goal.returns-then-not-has-room
-returns-then-not-has-room g c =
+pub returns-then-not-has_room : goal.returns-then-not-has_room
+returns-then-not-has_room g c =
     let s = c.args.shelf in
     let bs = s.blocks.now in
     let start = referred c.args.block.references in
-    let ms = c.unmark-listed.new.marks in
-    let m = subst (λ L. Marks bs (Pending bs start L) ms) c.as-slice.ensures (c.unmark-listed.ensures start c.reach.ensures) in
+    let ms = c.unmark_listed.new.marks in
+    let m = subst (λ L. Marks bs (Pending bs start L) ms) c.as_slice.ensures (c.unmark_listed.ensures start c.reach.ensures) in
     record {
       listed = (
         refl,
         λ xs l.
             let n = lines_count g.O.Order.precedes bs s.sound start l ms m in
-            let full = leb-false _ _ (sym c.has-room.ensures ∙ c.if-not-has-room.true) in
+            let full = leb-false _ _ (sym c.has_room.ensures ∙ c.if-not-has_room.true) in
             omega (arith, c.gather-count.ensures.count),
       );
       bound = refl;
@@ -32,12 +32,12 @@ returns-then-not-has-room g c =
 
 pub append-requires : goal.append-requires
 append-requires g c =
-    let ms = c.unmark-listed.new.marks in
+    let ms = c.unmark_listed.new.marks in
     let w = c.gather-count.new.waiting in
     let n = c.gather-count.result in
-    let room = leb-true _ _ (sym c.has-room.ensures ∙ c.if-not-has-room.false) in
+    let room = leb-true _ _ (sym c.has_room.ensures ∙ c.if-not-has_room.false) in
     record {
-      long = omega (arith, c.args.shelf.few, c.unmark-listed.auto.marks);
+      long = omega (arith, c.args.shelf.few, c.unmark_listed.auto.marks);
       all = gathered_front ms w n c.gather-count.ensures.within c.gather-count.ensures.all;
       room = omega (arith, c.gather-count.ensures.count);
     }
@@ -47,9 +47,9 @@ returns g c =
     let s = c.args.shelf in
     let bs = s.blocks.now in
     let start = referred c.args.block.references in
-    let ms = c.unmark-listed.new.marks in
+    let ms = c.unmark_listed.new.marks in
     let L = held c.args.lines.now in
-    let m = subst (λ L. Marks bs (Pending bs start L) ms) c.as-slice.ensures (c.unmark-listed.ensures start c.reach.ensures) in
+    let m = subst (λ L. Marks bs (Pending bs start L) ms) c.as_slice.ensures (c.unmark_listed.ensures start c.reach.ensures) in
     let r = c.append.ensures.listed start c.requires m in
     let n = lines_count g.O.Order.precedes bs s.sound start r.1 ms m in
     record {

@@ -7,9 +7,9 @@ use Rattle.listing.proofs.reach.+mark_all.Goals as goal
 pub returns-in-Some : goal.returns-in-Some
 returns-in-Some t c =
     let bs = c.args.shelf.blocks.now in
-    subst (λ names. Adds bs (Among names) c.args.marks.now c.mark-all.new.marks) (sym c.in-Some.ensures)
-    (adds_first bs c.in-Some.name (referred c.in-Some.rest) c.args.marks.now c.mark-one.new.marks c.mark-all.new.marks c.mark-one.ensures c.mark-all.ensures)
+    subst (λ names. Adds bs (Among names) c.args.marks.now c.mark_all.new.marks) (sym c.in-Some.ensures)
+    (adds_first bs c.in-Some.name (referred c.in-Some.rest) c.args.marks.now c.mark_one.new.marks c.mark_all.new.marks c.mark_one.ensures c.mark_all.ensures)
 
-pub returns-in-default : goal.returns-in-default
-returns-in-default t c =
-    subst (λ names. Adds c.args.shelf.blocks.now (Among names) c.args.marks.now c.args.marks.now) (sym c.in-default.ensures) (adds_nothing c.args.shelf.blocks.now c.args.marks.now)
+pub returns-in_default : goal.returns-in_default
+returns-in_default t c =
+    subst (λ names. Adds c.args.shelf.blocks.now (Among names) c.args.marks.now c.args.marks.now) (sym c.in_default.ensures) (adds_nothing c.args.shelf.blocks.now c.args.marks.now)

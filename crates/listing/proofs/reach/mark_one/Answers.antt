@@ -7,5 +7,5 @@ returns-in-Some c =
     let h = c.in-Some.ensures in
     adds_place s.blocks.now s.sound c.args.marks.now c.args.name c.in-Some.place h.0 h.1 c.requires
 
-pub returns-in-default : goal.returns-in-default
-returns-in-default c = adds_absent c.args.shelf.blocks.now c.args.marks.now c.args.name c.in-default.ensures
+pub returns-in_default : goal.returns-in_default
+returns-in_default c = adds_absent c.args.shelf.blocks.now c.args.marks.now c.args.name c.in_default.ensures

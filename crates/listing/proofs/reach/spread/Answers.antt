@@ -10,9 +10,9 @@ returns-then-not-marks-place c start sp =
 pub returns-in-Some : goal.returns-in-Some
 returns-in-Some c start sp =
     let s = c.args.shelf in
-    spread_down s.blocks.now s.sound start c.args.marks.now c.mark-all.new.marks c.args.place c.in-Some.side sp c.if-not-marks-place.false c.in-Some.ensures c.mark-all.ensures
+    spread_down s.blocks.now s.sound start c.args.marks.now c.mark_all.new.marks c.args.place c.in-Some.side sp c.if-not-marks-place.false c.in-Some.ensures c.mark_all.ensures
 
-pub returns-in-default : goal.returns-in-default
-returns-in-default c start sp =
+pub returns-in_default : goal.returns-in_default
+returns-in_default c start sp =
     let s = c.args.shelf in
-    spread_past s.blocks.now s.sound start c.args.marks.now c.args.place sp (λ side _ p. c.in-default.ensures side p)
+    spread_past s.blocks.now s.sound start c.args.marks.now c.args.place sp (λ side _ p. c.in_default.ensures side p)

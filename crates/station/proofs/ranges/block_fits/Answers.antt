@@ -2,18 +2,18 @@ use Rattle.std.proofs.Common.{rules}
 use Rattle.model.specs.Ranges.{block_fits}
 use Rattle.station.proofs.ranges.block_fits.Goals as goal
 
-pub returns-then-entry-fits : goal.returns-then-entry-fits
+pub returns-then-entry_fits : goal.returns-then-entry_fits
 unfolding block_fits
-returns-then-entry-fits c = search rules
+returns-then-entry_fits c = search rules
 
-pub returns-else-entry-fits : goal.returns-else-entry-fits
+pub returns-else-entry_fits : goal.returns-else-entry_fits
 unfolding block_fits
-returns-else-entry-fits c = search rules
+returns-else-entry_fits c = search rules
 
-pub returns-then-halves-fit : goal.returns-then-halves-fit
+pub returns-then-halves_fit : goal.returns-then-halves_fit
 unfolding block_fits
-returns-then-halves-fit c = search rules
+returns-then-halves_fit c = search rules
 
-pub returns-else-halves-fit : goal.returns-else-halves-fit
+pub returns-else-halves_fit : goal.returns-else-halves_fit
 unfolding block_fits
-returns-else-halves-fit c = search rules
+returns-else-halves_fit c = search rules

@@ -2,10 +2,10 @@ use Rattle.std.proofs.Common.{rules}
 use Rattle.model.specs.Ranges.{halves_fit}
 use Rattle.station.proofs.ranges.halves_fit.Goals as goal
 
-pub returns-then-name-lt-HALF-LIMIT : goal.returns-then-name-lt-HALF-LIMIT
+pub returns-then-name-lt-HALF_LIMIT : goal.returns-then-name-lt-HALF_LIMIT
 unfolding halves_fit
-returns-then-name-lt-HALF-LIMIT c = search rules
+returns-then-name-lt-HALF_LIMIT c = search rules
 
-pub returns-else-name-lt-HALF-LIMIT : goal.returns-else-name-lt-HALF-LIMIT
+pub returns-else-name-lt-HALF_LIMIT : goal.returns-else-name-lt-HALF_LIMIT
 unfolding halves_fit
-returns-else-name-lt-HALF-LIMIT c = search rules
+returns-else-name-lt-HALF_LIMIT c = search rules

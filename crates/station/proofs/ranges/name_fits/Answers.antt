@@ -2,10 +2,10 @@ use Rattle.std.proofs.Common.{rules}
 use Rattle.model.specs.Ranges.{name_fits}
 use Rattle.station.proofs.ranges.name_fits.Goals as goal
 
-pub returns-then-halves-fit : goal.returns-then-halves-fit
+pub returns-then-halves_fit : goal.returns-then-halves_fit
 unfolding name_fits
-returns-then-halves-fit c = search rules
+returns-then-halves_fit c = search rules
 
-pub returns-else-halves-fit : goal.returns-else-halves-fit
+pub returns-else-halves_fit : goal.returns-else-halves_fit
 unfolding name_fits
-returns-else-halves-fit c = search rules
+returns-else-halves_fit c = search rules

@@ -20,4 +20,4 @@ returns-in-Ok g c =
     let d = desk_of g.B.Observe c.args.self.now c.args.out.now in
     let a = offered_form d.core c.args.offer c.args.claims.now in
     let b = offered_fit d (book_of c.args.book.now) c.args.offer c.args.claims.now in
-    then_judged a b (λ (_ : Unit {0}). MayVote d) c.judge-offered-fit.result c.in-Ok.ensures.0 c.judge-offered-fit.ensures
+    then_judged a b (λ (_ : Unit {0}). MayVote d) c.judge_offered_fit.result c.in-Ok.ensures.0 c.judge_offered_fit.ensures

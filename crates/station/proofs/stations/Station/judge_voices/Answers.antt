@@ -20,4 +20,4 @@ returns-in-Ok g c =
     let d = desk_of g.B.Observe c.args.self.now c.args.out.now in
     let a = voices_form d.core c.args.voices in
     let b = voices_fit g.B.Observe.fits g.B.Observe.free d (book_of c.args.book.now) c.args.voices in
-    then_judged a b (λ (_ : Unit {0}). MayHear g.B.Observe.fits g.B.Observe.free d c.args.voices) c.judge-voices-fit.result c.in-Ok.ensures.0 c.judge-voices-fit.ensures
+    then_judged a b (λ (_ : Unit {0}). MayHear g.B.Observe.fits g.B.Observe.free d c.args.voices) c.judge_voices_fit.result c.in-Ok.ensures.0 c.judge_voices_fit.ensures
