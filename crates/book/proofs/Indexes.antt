@@ -1,17 +1,16 @@
 -- A search in a sorted index.
-use Rattle.std.proofs.Common.{◌≡◌, ℕ, zero, suc, ◌+◌, ◌-◌, ◌<◌, ◌≤◌, Bool, true, false, cond, not, ◌||◌, eqb, ◌⊎◌, List, [], ◌∷◌, ◌++◌, length, get_or, is_ok, Some, None, Ok, Err, Option, Result, sym, refl, ap, ◌∙◌, subst, inl, inr, arith, MatchResult}
+use Rattle.std.proofs.Common.{◌≡◌, ℕ, zero, suc, ◌+◌, ◌-◌, ◌<◌, ◌≤◌, true, false, eqb, List, [], ◌∷◌, ◌++◌, length, get_or, Some, None, Option, sym, refl, ap, ◌∙◌, subst, inl, inr, arith}
 use Rattle.std.specs.List.{slice_get, insert}
 use Rattle.std.proofs.lemmas.List.Edits.{length-insert, get_or-insert_below, get_or-insert_at, get_or-insert_above}
 use Rattle.std.proofs.lemmas.List.{length_push}
-use Rattle.std.proofs.lemmas.Bool.{cases_Bool, cases_eq, cases_order, or_left, or_right, eq-eqb, cases_lt, or_cases, eqb-true, both_ways, not_from_false}
+use Rattle.std.proofs.lemmas.Bool.{cases_eq, cases_order, or_left, or_right, eq-eqb, cases_lt, or_cases, eqb-true, both_ways, not_from_false}
 use Rattle.model.specs.declared.names.Name.{Name}
 use Rattle.model.specs.declared.blocks.Block.{Block}
 use Rattle.model.specs.Blocks.{name_of}
 use Rattle.book.specs.Places.{find, Sound, Placed}
 use Rattle.model.specs.Orders.{name_before}
-use Rattle.book.specs.Index.{name_there, key, stands, Indexed, Sought}
+use Rattle.book.specs.Index.{name_there, key, stands, Indexed}
 use Rattle.model.proofs.OrderLaws.{name_flip, name_never, name_chain}
-use Rattle.model.proofs.Naming.{same_false}
 use Rattle.book.proofs.Nths.{nth_some, nth_below, nth_front, nth_end}
 use Rattle.book.proofs.Finds.{find_some}
 use Rattle.book.proofs.Lower.{find_nth}

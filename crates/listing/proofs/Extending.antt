@@ -1,11 +1,11 @@
 -- Listing one block more keeps a listing one.
-use Rattle.std.proofs.Common.{◌≡◌, ℕ, ◌⊎◌, List, [], ◌∷◌, ◌++◌, Ok, Err, Result, sym, refl, ap, ◌∙◌, subst, inl, inr}
+use Rattle.std.proofs.Common.{◌≡◌, ℕ, List, [], ◌∷◌, ◌++◌, Ok, Err, Result, sym, ap, ◌∙◌, subst, inl, inr}
 use Rattle.std.proofs.lemmas.List.{append_assoc}
 use Rattle.model.specs.declared.names.Name.{Name}
 use Rattle.model.specs.declared.refusals.Refusal.{Refusal}
 use Rattle.model.specs.Books.{Book}
 use Rattle.model.specs.Orders.{Before}
-use Rattle.model.specs.Chains.{Listing, none, more, last_listed, Extended}
+use Rattle.model.specs.Chains.{Listing, more, last_listed, Extended}
 use Rattle.listing.proofs.Walks.{last_push}
 
 pub extended_keeps : (before : Before) (K : Book) (target : Name) (places : ℕ) (L after : List Name) (r : Result (ℕ × ℕ) Refusal) → Extended before K target places L after r → Listing before K L (last_listed K L) → Listing before K after (last_listed K after)

@@ -1,16 +1,16 @@
 -- Marks: one more, one less, and how they spread along references.
-use Rattle.std.proofs.Common.{◌≡◌, ℕ, zero, suc, ◌+◌, ◌<◌, ◌≤◌, Bool, true, false, cond, not, ◌&&◌, ◌||◌, ◌≢◌, ◌⊎◌, List, [], ◌∷◌, ◌++◌, length, get_or, take, set, replicate, Some, None, Option, sym, refl, ap, ◌∙◌, subst, inl, inr, arith}
+use Rattle.std.proofs.Common.{◌≡◌, ℕ, zero, suc, ◌+◌, ◌<◌, ◌≤◌, Bool, true, false, not, ◌&&◌, ◌||◌, ◌≢◌, ◌⊎◌, List, [], ◌∷◌, ◌++◌, length, get_or, set, replicate, Some, None, sym, refl, ap, ◌∙◌, subst, inl, inr, arith}
 use Rattle.std.specs.List.{slice_get}
-use Rattle.std.proofs.lemmas.List.{get_or-set_same, get_or-set_other, get_or_past, set_past, take_more}
-use Rattle.std.proofs.lemmas.Bool.{cases_eq, cases_lt, cases_Bool, both_ways, or_cases, or_left, or_right, or_parts, or_from, and_parts, and_from, not_from_false, not-true}
+use Rattle.std.proofs.lemmas.List.{get_or-set_same, get_or-set_other, set_past}
+use Rattle.std.proofs.lemmas.Bool.{cases_eq, cases_lt, cases_Bool, both_ways, or_cases, or_left, or_right, and_parts, and_from, not_from_false, not-true}
 use Rattle.model.specs.declared.names.Name.{Name}
 use Rattle.model.specs.declared.blocks.SideBlock.{SideBlock}
 use Rattle.model.specs.declared.blocks.Block.{Block}
-use Rattle.model.specs.declared.blocks.Block.TheVariants.{Side, Backbone}
+use Rattle.model.specs.declared.blocks.Block.TheVariants.{Side}
 use Rattle.model.specs.Names.{same}
 use Rattle.model.specs.Blocks.{referred, name_of}
 use Rattle.model.specs.Listing.{has, Reached, direct, onward}
-use Rattle.model.proofs.Naming.{same_true, same_refl, same_false, eq_same, has_push}
+use Rattle.model.proofs.Naming.{same_true, eq_same, has_push}
 use Rattle.book.specs.Places.{find, Sound}
 use Rattle.book.proofs.Nths.{nth_below, nth_some}
 use Rattle.book.proofs.Finds.{find_any, find_some}

@@ -1,5 +1,5 @@
 -- The first candidate is the next line.
-use Rattle.std.proofs.Common.{◌≡◌, ℕ, zero, suc, ◌+◌, ◌<◌, ◌≤◌, Bool, true, false, cond, not, ◌&&◌, ◌||◌, ◌≢◌, ◌⊎◌, List, [], ◌∷◌, ◌++◌, length, get_or, take, set, Some, None, Option, sym, refl, ap, ◌∙◌, subst, inl, inr, arith, length-set, length-take}
+use Rattle.std.proofs.Common.{◌≡◌, ℕ, zero, suc, ◌+◌, ◌<◌, ◌≤◌, Bool, true, false, cond, ◌≢◌, List, [], ◌∷◌, ◌++◌, length, get_or, take, set, Some, None, Option, sym, refl, ap, ◌∙◌, subst, inl, inr, arith, length-set, length-take}
 use Rattle.std.specs.List.{slice_get}
 use Rattle.std.proofs.lemmas.List.Sums.{sum_by-set, sum_by-cons}
 use Rattle.std.proofs.lemmas.List.{get_or-set_same, get_or-set_other, get_or_past, set_past, get_or-take}
@@ -12,14 +12,14 @@ use Rattle.model.specs.Names.{same}
 use Rattle.model.specs.Blocks.{referred, name_of}
 use Rattle.model.specs.Books.{sides_held}
 use Rattle.model.specs.Orders.{Before, Lawful}
-use Rattle.model.specs.Listing.{has, Ready, Reached, direct, onward, First, Lines, done, next}
-use Rattle.model.proofs.Naming.{same_true, same_false, eq_same, same_refl, has_push}
+use Rattle.model.specs.Listing.{has, Ready, Reached, onward, First, Lines, done, next}
+use Rattle.model.proofs.Naming.{same_true, same_false, same_refl, has_push}
 use Rattle.model.proofs.OneListing.{reached_held}
 use Rattle.book.specs.Places.{find, Sound}
-use Rattle.book.proofs.Nths.{nth_below, nth_some}
+use Rattle.book.proofs.Nths.{nth_some}
 use Rattle.book.proofs.Finds.{find_some, find_any}
 use Rattle.book.proofs.Lower.{one_place, find_nth, reference_lower, book_whole}
-use Rattle.listing.specs.Marks.{mark, Marks, Pending, Among, Marked, Clear, Candidate, Gathered, Best, count}
+use Rattle.listing.specs.Marks.{mark, Marks, Pending, Marked, Clear, Candidate, Gathered, Best, count}
 
 pub mark_below : (ms : List Bool) (i : ℕ) → mark ms i ≡ true → i < length ms
 mark_below ms i e = elim (cases_lt i (length ms)) [

@@ -1,17 +1,17 @@
 -- A walk down the parent chain, and the last listed block.
-use Rattle.std.proofs.Common.{◌≡◌, ℕ, zero, suc, ◌+◌, ◌<◌, ◌≤◌, Bool, true, false, cond, ◌&&◌, eqb, ◌⊎◌, List, [], ◌∷◌, ◌++◌, length, get_or, take, Some, None, Option, sym, refl, ap, ◌∙◌, subst, inl, inr, arith, MatchOption}
+use Rattle.std.proofs.Common.{◌≡◌, ℕ, suc, ◌+◌, ◌<◌, true, false, cond, eqb, List, [], ◌∷◌, ◌++◌, length, get_or, take, Some, None, Option, sym, refl, ap, ◌∙◌, subst, inl, inr, arith, MatchOption}
 use Rattle.std.proofs.lemmas.List.Sums.{fold_more}
 use Rattle.std.proofs.lemmas.List.{length_push, get_or_push, take_all}
-use Rattle.std.proofs.lemmas.Bool.{eqb-true, cond-true, cond-false, cases_Bool, and_parts, both_ways}
+use Rattle.std.proofs.lemmas.Bool.{eqb-true, cond-true, cond-false, cases_Bool, and_parts}
 use Rattle.model.specs.declared.names.Name.{Name}
 use Rattle.model.specs.declared.blocks.SideBlock.{SideBlock}
 use Rattle.model.specs.declared.blocks.BackboneBlock.{BackboneBlock}
 use Rattle.model.specs.declared.blocks.Block.{Block}
 use Rattle.model.specs.declared.blocks.Block.TheVariants.{Side, Backbone}
 use Rattle.model.specs.Names.{same}
-use Rattle.model.specs.Blocks.{referred, name_of}
+use Rattle.model.specs.Blocks.{referred}
 use Rattle.model.specs.Books.{Book, Whole, genesis, is_backbone, of_view, sides_held, parent_held}
-use Rattle.model.specs.Chains.{OnChain, here, up, Next, last_listed}
+use Rattle.model.specs.Chains.{OnChain, here, up, last_listed}
 use Rattle.model.proofs.Naming.{same_true}
 use Rattle.listing.specs.Steps.{Walked, backbone_of}
 

@@ -1,5 +1,5 @@
 -- Marks beside the places of a book's blocks, and the next line among the marked ones: inner matters of listing a block. Assumes nothing.
-use Rattle.std.specs.Prelude.{◌≡◌, ℕ, ◌<◌, ◌≤◌, Bool, true, false, not, ◌&&◌, ◌⊎◌, List, length, Some, None, count_by, Option, MatchOption, ◌≢◌, slice_index, slice_index_or}
+use Rattle.std.specs.Prelude.{◌≡◌, ℕ, ◌<◌, ◌≤◌, Bool, true, false, not, ◌&&◌, ◌⊎◌, List, length, Some, count_by, Option, MatchOption, ◌≢◌, slice_index, slice_index_or}
 use Rattle.std.specs.List.{slice_get}
 use Rattle.model.specs.declared.names.Name.{Name}
 use Rattle.model.specs.declared.blocks.SideBlock.{SideBlock}

@@ -1,5 +1,5 @@
 -- Bits of masks, and masks of one station.
-use Rattle.std.proofs.Common.{◌≡◌, ℕ, zero, suc, ◌/◌, ◌%◌, ◌^◌, ◌<◌, ◌≤◌, min, true, false, eqb, ◌⊎◌, sym, refl, ap, ◌∙◌, ⊎_elim, div-one, arith, pow_mono}
+use Rattle.std.proofs.Common.{◌≡◌, ℕ, zero, suc, ◌/◌, ◌%◌, ◌^◌, ◌<◌, ◌≤◌, min, true, false, eqb, sym, refl, ap, ◌∙◌, ⊎_elim, div-one, arith, pow_mono}
 use native.Mathlib.Nat.{pow-succ', div-div-eq-div-mul, mul-div_cancel_left, zero-div}
 use lib.Bits.{bit_and, and_step, and_shr}
 use lib.Count.{ones, ones_step, ones-le, count_trailing_zeros, under as lowest}

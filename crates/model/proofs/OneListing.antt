@@ -1,5 +1,5 @@
 -- The listing of a chain is one: of a block, over books that agree, and along the chain.
-use Rattle.std.proofs.Common.{◌≡◌, ℕ, Bool, true, false, cond, not, ◌&&◌, ◌||◌, ◌⊎◌, List, [], ◌∷◌, ◌++◌, Some, None, Option, sym, refl, ap, ◌∙◌, subst, inl, inr, arith}
+use Rattle.std.proofs.Common.{◌≡◌, ℕ, true, List, [], ◌∷◌, ◌++◌, Some, None, Option, sym, refl, ap, ◌∙◌, subst, inl, inr, arith}
 use Rattle.std.proofs.lemmas.Bool.{both_ways, not_from_true, and_parts, or_cases}
 use Rattle.std.proofs.lemmas.List.{append-nil, append_assoc}
 use Rattle.model.specs.declared.names.Name.{Name}
@@ -8,7 +8,7 @@ use Rattle.model.specs.declared.blocks.BackboneBlock.{BackboneBlock}
 use Rattle.model.specs.declared.blocks.Block.{Block}
 use Rattle.model.specs.declared.blocks.Block.TheVariants.{Side, Backbone}
 use Rattle.model.specs.Names.{same}
-use Rattle.model.specs.Blocks.{referred, name_of}
+use Rattle.model.specs.Blocks.{referred}
 use Rattle.model.specs.Books.{Book, Whole, genesis, is_side, sides_held, parent_held}
 use Rattle.model.specs.Orders.{Before, Lawful}
 use Rattle.model.specs.Listing.{has, Reached, direct, onward, First, Lines, done, next}

@@ -2,7 +2,6 @@
 use Rattle.std.proofs.Common.{◌≡◌, ℕ, Bool, true, false, cond, eqb, List, [], ◌∷◌, ◌++◌, Some, None, Option, sym, refl, ◌∙◌}
 use Rattle.std.proofs.lemmas.List.{append-nil, append_assoc}
 use Rattle.model.specs.declared.names.Name.{Name}
-use Rattle.model.specs.declared.states.Sent.{Sent}
 use Rattle.model.specs.declared.statements.Voices.{Voices}
 use Rattle.model.specs.Stations.{Core, Desk, Post, claim, view, height, adopts, sent, posted, messages, statements, own_claim, own_certificate}
 use Rattle.model.specs.Voting.{gave, giving_posts, relay_posts}

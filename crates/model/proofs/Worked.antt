@@ -1,15 +1,14 @@
 -- The worked listing and lookups hold, and equal lists give equal lookups.
-use Rattle.std.proofs.Common.{◌≡◌, ℕ, Bool, true, false, ◌||◌, ◌⊎◌, List, [], ◌∷◌, ◌++◌, Some, None, Option, sym, refl, ap, ◌∙◌, subst, inl, inr}
+use Rattle.std.proofs.Common.{◌≡◌, true, false, ◌⊎◌, List, [], ◌∷◌, Some, sym, refl, ap, ◌∙◌, subst, inl, inr}
 use Rattle.std.proofs.lemmas.Bool.{both_ways, or_cases, or_left, or_right}
 use Rattle.model.specs.declared.names.Name.{Name}
-use Rattle.model.specs.declared.blocks.Entry.{Entry}
 use Rattle.model.specs.declared.blocks.SideBlock.{SideBlock}
 use Rattle.model.specs.declared.blocks.Block.TheVariants.{Side}
 use Rattle.model.specs.Names.{same}
 use Rattle.model.specs.Blocks.{referred}
 use Rattle.model.specs.Books.{Book}
 use Rattle.model.specs.Orders.{Before, by_author, by_sonde}
-use Rattle.model.specs.Listing.{has, Ready, Reached, direct, onward, First, Lines, done, next}
+use Rattle.model.specs.Listing.{has, Ready, Reached, direct, onward, Lines, done, next}
 use Rattle.model.specs.Chains.{none, more}
 use Rattle.model.specs.Lookups.{holding, entries, entry_there, EqualLookups}
 use Rattle.model.specs.Examples.{named, s1, s3, s4, b5, four, WorkedListing, WorkedLookups}

@@ -1,5 +1,5 @@
 -- The call Add: its questions, its effect, its promise. Assumes nothing.
-use Rattle.std.specs.Prelude.{Bool, List, [], ◌∷◌, Result}
+use Rattle.std.specs.Prelude.{Bool, List, ◌∷◌, Result}
 use Rattle.model.specs.declared.blocks.Block.{Block}
 use Rattle.model.specs.declared.answers.Added.{Added}
 use Rattle.model.specs.declared.refusals.Refusal.{Refusal}

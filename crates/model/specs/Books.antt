@@ -5,7 +5,6 @@ use Rattle.model.specs.Names.{same}
 use Rattle.model.specs.Blocks.{referred, name_of, same_block}
 use Rattle.model.specs.Questions.{Question}
 use Rattle.model.specs.declared.names.Name.{Name}
-use Rattle.model.specs.declared.blocks.SideBlock.{SideBlock}
 use Rattle.model.specs.declared.blocks.Parent.{Parent}
 use Rattle.model.specs.declared.blocks.BackboneBlock.{BackboneBlock}
 use Rattle.model.specs.declared.blocks.Block.{Block}

@@ -1,5 +1,5 @@
 -- How a certificate is taken up, and the call Certificate: its questions, its effect, its promise. Assumes nothing.
-use Rattle.std.specs.Prelude.{◌≡◌, ℕ, cond, ◌&&◌, List, [], ◌∷◌, Result, ◌==◌, nat_lt}
+use Rattle.std.specs.Prelude.{◌≡◌, cond, ◌&&◌, List, [], ◌∷◌, Result, ◌==◌, nat_lt}
 use Rattle.model.specs.declared.statements.Certificate.{Certificate}
 use Rattle.model.specs.declared.states.State.{State}
 use Rattle.model.specs.declared.refusals.Refusal.{Refusal}

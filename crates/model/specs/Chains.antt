@@ -1,5 +1,5 @@
 -- The parent chain of a backbone block, the listing of a chain, and what listing one block more answers and leaves. Assumes nothing.
-use Rattle.std.specs.Prelude.{◌≡◌, ℕ, ◌+◌, ◌<◌, Bool, cond, ◌⊎◌, List, [], ◌∷◌, ◌++◌, length, Some, Ok, Err, fold, Result, ◌≢◌}
+use Rattle.std.specs.Prelude.{◌≡◌, ℕ, ◌+◌, ◌<◌, cond, ◌⊎◌, List, [], ◌∷◌, ◌++◌, length, Some, Ok, Err, fold, Result, ◌≢◌}
 use Rattle.model.specs.Blocks.{referred}
 use Rattle.model.specs.Books.{Book, Whole, genesis, is_backbone}
 use Rattle.model.specs.Orders.{Before, Lawful}

@@ -1,5 +1,5 @@
 -- The calls Claim, which keeps a claim, and Ground, which goes by the kept ones: questions, effect, promise. Assumes nothing.
-use Rattle.std.specs.Prelude.{◌≡◌, ℕ, ◌+◌, Bool, true, not, ◌&&◌, ◌||◌, List, [], ◌∷◌, is_some, Some, None, Option, Result, ◌==◌, nat_le, nat_lt, slice_index_or, slice_set}
+use Rattle.std.specs.Prelude.{◌≡◌, ℕ, ◌+◌, true, not, ◌&&◌, ◌||◌, List, [], ◌∷◌, is_some, Some, None, Result, ◌==◌, nat_le, nat_lt, slice_index_or, slice_set}
 use Rattle.model.specs.declared.statements.Certificate.{Certificate}
 use Rattle.model.specs.declared.statements.Claim.{Claim}
 use Rattle.model.specs.declared.states.State.{State}

@@ -1,11 +1,9 @@
 -- Two worked cases: the listing of a block in both orders, and the lookups of a sonde. Assumes nothing.
-use Rattle.std.specs.Prelude.{◌≡◌, ℕ, cond, List, [], ◌∷◌, Some, None, Option}
+use Rattle.std.specs.Prelude.{◌≡◌, ℕ, cond, [], ◌∷◌, Some, None}
 use Rattle.model.specs.declared.names.Name.{Name}
-use Rattle.model.specs.declared.answers.Binding.{Binding}
 use Rattle.model.specs.declared.blocks.SideBlock.{SideBlock}
 use Rattle.model.specs.declared.blocks.BackboneBlock.{BackboneBlock}
 use Rattle.model.specs.declared.blocks.Block.TheVariants.{Side, Backbone}
-use Rattle.model.specs.declared.blocks.Entry.{Entry}
 use Rattle.model.specs.declared.blocks.Entry.TheVariants.{Bind, Release}
 use Rattle.model.specs.declared.blocks.References.TheVariants.{Empty, One, Two}
 use Rattle.model.specs.Names.{same}

@@ -1,5 +1,5 @@
 -- What holds for a sonde after some lines: a law over entries, and Lookup over the lines that a book holds. Assumes nothing.
-use Rattle.std.specs.Prelude.{◌≡◌, ℕ, Bool, true, cond, ◌&&◌, List, [], ◌∷◌, ◌++◌, Some, None, fold, Option, ◌==◌, nat_lt}
+use Rattle.std.specs.Prelude.{◌≡◌, ℕ, true, cond, ◌&&◌, List, [], ◌∷◌, Some, None, fold, Option, ◌==◌, nat_lt}
 use Rattle.model.specs.Books.{Book}
 use Rattle.model.specs.Listing.{has}
 use Rattle.model.specs.Questions.{Question}

@@ -1,5 +1,5 @@
 -- An accepted Voices in its steps: the vote given, the view completed, the mask passed on.
-use Rattle.std.proofs.Common.{◌≡◌, ℕ, Bool, true, false, cond, List, [], ◌∷◌, ◌++◌, Some, None, Option, sym, refl, ap, ◌∙◌, subst}
+use Rattle.std.proofs.Common.{◌≡◌, ℕ, Bool, true, false, cond, List, ◌++◌, Some, None, Option, sym, refl, ap, ◌∙◌, subst}
 use Rattle.model.specs.declared.names.Name.{Name}
 use Rattle.model.specs.declared.votes.Grade.TheVariants.{Two}
 use Rattle.model.specs.declared.votes.SecondVote.{SecondVote}

@@ -1,11 +1,11 @@
 -- Each body is the words that its numbers were read from.
-use Rattle.std.proofs.Common.{◌≡◌, ℕ, ◌+◌, ◌-◌, ◌<◌, ◌≤◌, Bool, true, List, [], ◌∷◌, ◌++◌, length, get_or, take, drop, sym, refl, ap, ◌∙◌, arith, rules}
+use Rattle.std.proofs.Common.{◌≡◌, ℕ, ◌-◌, ◌≤◌, true, List, [], ◌∷◌, ◌++◌, length, get_or, take, drop, arith, rules}
 use Rattle.std.proofs.lemmas.List.{drop_all}
 use Rattle.model.specs.declared.names.Name.{Name}
 use Rattle.words.specs.Layouts.{kinds_of}
 use Rattle.words.specs.Words.{value, right_kinds, word, name_words, names_words, voices_words}
 use Rattle.words.specs.declared.layouts.Layout.TheVariants.{Bind, Release, Backbone, Offer, Voices, Claim}
-use Rattle.words.proofs.Fronts.{kind_at, word_at, firsts, all_in_front}
+use Rattle.words.proofs.Fronts.{word_at, firsts, all_in_front}
 
 -- the words behind the first n
 abbrev pub rest : ℕ → List ℕ → List ℕ

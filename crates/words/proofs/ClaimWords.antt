@@ -1,13 +1,12 @@
 -- The words of claims, one claim at a time.
-use Rattle.std.proofs.Common.{◌≡◌, ℕ, zero, suc, ◌+◌, ◌*◌, ◌/◌, ◌%◌, ◌<◌, ◌≤◌, Bool, true, false, ◌&&◌, List, [], ◌∷◌, ◌++◌, length, get_or, take, drop, set, sym, refl, ap, ◌∙◌, arith, rules}
+use Rattle.std.proofs.Common.{◌≡◌, ℕ, zero, suc, ◌+◌, ◌*◌, ◌<◌, ◌≤◌, Bool, true, ◌&&◌, List, [], ◌∷◌, ◌++◌, length, get_or, take, drop, set, sym, refl, ap, ◌∙◌, arith, rules}
 use Rattle.std.proofs.lemmas.List.{at_drop_more, at_drop_all, append_assoc, append-nil, take_more_set, drop-set-lt, drop-drop, drop_all}
 use Rattle.model.specs.declared.statements.OfferClaim.{OfferClaim}
 use Rattle.words.specs.Claims.{claims_kinds, claims_words, small_claims, are_claims, ClaimsInFront}
 use Rattle.words.specs.Places.{placed}
-use Rattle.words.specs.Words.{kind, value, word, small, right_kinds}
-use Rattle.words.proofs.Fronts.{kind_at, firsts, firsts_from, word_at}
+use Rattle.words.specs.Words.{value, word, small, right_kinds}
+use Rattle.words.proofs.Fronts.{firsts, firsts_from, word_at}
 use Rattle.words.proofs.Placing.{placed_more, placed_none}
-use Rattle.words.proofs.RightKinds.{no_words}
 
 -- a claim of zeros, where a place past the end is read
 abbrev pub zeros : OfferClaim

@@ -1,10 +1,10 @@
 -- The words of claims give the claims back.
-use Rattle.std.proofs.Common.{◌≡◌, ℕ, zero, suc, ◌+◌, ◌*◌, ◌%◌, ◌<◌, ◌≤◌, Bool, true, false, ◌&&◌, eqb, leb, List, [], ◌∷◌, ◌++◌, length, take, drop, Ok, Err, Result, sym, refl, ap, ◌∙◌, arith, rules}
+use Rattle.std.proofs.Common.{◌≡◌, ℕ, zero, suc, ◌*◌, ◌%◌, ◌≤◌, true, List, [], ◌∷◌, ◌++◌, length, take, drop, Ok, Err, Result, sym, refl, ap, ◌∙◌, arith, rules}
 use Rattle.std.proofs.lemmas.List.{take_at}
 use Rattle.model.specs.declared.refusals.Refusal.{Refusal}
 use Rattle.model.specs.declared.statements.OfferClaim.{OfferClaim}
-use Rattle.words.specs.Claims.{claims_kinds, claims_words, small_claims, are_claims, ClaimsInFront, WritesClaims, ReadsClaims, ClaimsRoundTrip}
-use Rattle.words.specs.Words.{word, small, right_kinds}
+use Rattle.words.specs.Claims.{claims_kinds, claims_words, small_claims, are_claims, WritesClaims, ReadsClaims, ClaimsRoundTrip}
+use Rattle.words.specs.Words.{word, right_kinds}
 use Rattle.words.proofs.ClaimWords.{length_of_claims}
 use Rattle.words.proofs.RightKinds.{no_words}
 use Rattle.words.proofs.Wholes.{kind_of_word}

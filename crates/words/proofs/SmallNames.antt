@@ -1,5 +1,5 @@
 -- Whether the names of a row fit, one name at a time.
-use Rattle.std.proofs.Common.{◌≡◌, Bool, true, ◌&&◌, List, [], ◌∷◌, refl}
+use Rattle.std.proofs.Common.{◌≡◌, true, ◌&&◌, List, [], ◌∷◌, refl}
 use Rattle.model.specs.declared.names.Name.{Name}
 use Rattle.words.specs.Words.{small_name, small_names}
 

@@ -1,5 +1,5 @@
 -- The layouts of messages: type, counts of words behind the head, and their kinds. Assumes nothing.
-use Rattle.std.specs.Prelude.{ℕ, ◌/◌, ◌%◌, Bool, true, false, cond, ◌&&◌, List, [], ◌∷◌, ◌++◌, replicate, Some, None, Option, ◌==◌, nat_le}
+use Rattle.std.specs.Prelude.{ℕ, ◌/◌, ◌%◌, Bool, cond, ◌&&◌, List, [], ◌∷◌, replicate, Some, None, Option, ◌==◌, nat_le}
 use Rattle.words.specs.Claims.{claims_kinds}
 use Rattle.words.specs.Words.{kind, value}
 use Rattle.words.specs.declared.layouts.Layout.{Layout}

@@ -1,6 +1,6 @@
-use Rattle.std.proofs.Common.{◌≡◌, sym, refl, ap, ◌∙◌, subst, inl, inr}
-use Rattle.model.specs.Chains.{last_listed, Next}
-use Rattle.model.proofs.Naming.{same_true, same_false}
+use Rattle.std.proofs.Common.{◌≡◌, sym, refl, ap, ◌∙◌, inl}
+use Rattle.model.specs.Chains.{last_listed}
+use Rattle.model.proofs.Naming.{same_true}
 use Rattle.model.proofs.OneListing.{backbone_sides}
 use Rattle.places.specs.Held.{held}
 use Rattle.book.specs.Places.{find}

@@ -1,4 +1,4 @@
-use Rattle.std.proofs.Common.{◌≡◌, ◌+◌, ◌^◌, ◌<◌, [], ◌∷◌, get_or, drop, refl, ap, ◌∙◌, rules}
+use Rattle.std.proofs.Common.{◌≡◌, ◌+◌, ◌^◌, ◌<◌, ◌∷◌, get_or, drop, refl, ap, ◌∙◌, rules}
 use lib.Bits.{bit_or, or_zero_r}
 use Rattle.std.proofs.lemmas.Nat.{pow_pos, pow_below, or_lt}
 use Rattle.std.proofs.lemmas.List.{at_drop_more, at_drop_all}

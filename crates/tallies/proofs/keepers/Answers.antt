@@ -1,6 +1,5 @@
-use Rattle.std.proofs.Common.{◌≡◌, rules}
+use Rattle.std.proofs.Common.{rules}
 use lib.Bits.{or_zero_r}
-use Rattle.model.specs.Claims.{keepers}
 use Rattle.model.proofs.Claims.{keepers_more, keepers_none}
 use Rattle.tallies.proofs.keepers.Goals as goal
 

@@ -1,4 +1,4 @@
-use Rattle.std.proofs.Common.{◌≡◌, ◌<◌, sym, ◌∙◌, subst}
+use Rattle.std.proofs.Common.{◌<◌, sym, ◌∙◌, subst}
 use Rattle.model.proofs.Naming.{same_false, same_true}
 use Rattle.book.specs.Places.{find}
 use Rattle.book.proofs.Lower.{book_whole}

@@ -1,6 +1,5 @@
-use Rattle.std.proofs.Common.{◌≡◌, ℕ, ◌+◌, false, [], ◌∷◌, ◌++◌, length, set, sym, ap, ◌∙◌, subst, arith}
-use Rattle.places.specs.Held.{held, bound}
-use Rattle.listing.specs.Marks.{count}
+use Rattle.std.proofs.Common.{false, length, set, sym, ◌∙◌, subst, arith}
+use Rattle.places.specs.Held.{held}
 use Rattle.listing.proofs.Picking.{count_drop, gathered_drop, mark_below}
 use Rattle.listing.proofs.Growth.{Sofar, sofar_more, sofar_done}
 use Rattle.listing.proofs.lines.append.Goals as goal

@@ -1,4 +1,4 @@
-use Rattle.std.proofs.Common.{◌≡◌, ℕ, ◌+◌, List, length}
+use Rattle.std.proofs.Common.{◌≡◌, ◌+◌, List, length}
 use Rattle.model.specs.declared.names.Name.{Name}
 use Rattle.places.specs.Held.{held, bound}
 use Rattle.listing.specs.Marks.{Marks, Pending, Gathered, count}

@@ -1,10 +1,9 @@
-use Rattle.std.proofs.Common.{◌≡◌, ℕ, ◌+◌, ◌<◌, ◌≤◌, Bool, false, List, [], ◌∷◌, ◌++◌, length, get_or, take, replicate, sym, refl, ap, ◌∙◌, subst, arith, length-take}
+use Rattle.std.proofs.Common.{false, [], ◌∷◌, ◌++◌, replicate, sym, refl, ap, ◌∙◌, subst, arith}
 use Rattle.std.proofs.lemmas.Bool.{both_ways, leb-true, leb-false}
-use Rattle.std.proofs.lemmas.List.{append_assoc, get_or-take}
-use Rattle.model.specs.declared.names.Name.{Name}
+use Rattle.std.proofs.lemmas.List.{append_assoc}
 use Rattle.model.specs.Blocks.{referred}
-use Rattle.places.specs.Held.{held, bound}
-use Rattle.listing.specs.Marks.{mark, Marks, Pending, Gathered}
+use Rattle.places.specs.Held.{held}
+use Rattle.listing.specs.Marks.{mark, Marks, Pending}
 use Rattle.listing.proofs.Marking.{blank}
 use Rattle.listing.proofs.Picking.{lines_count, gathered_front}
 use Rattle.listing.proofs.lines.list_block.Goals as goal

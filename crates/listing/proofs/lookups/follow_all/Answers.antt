@@ -1,4 +1,4 @@
-use Rattle.std.proofs.Common.{◌≡◌, fold, sym, ap, ◌∙◌}
+use Rattle.std.proofs.Common.{fold, sym, ap, ◌∙◌}
 use Rattle.std.proofs.lemmas.List.{drop_all}
 use Rattle.model.specs.Lookups.{entry_effect, entries}
 use Rattle.book.specs.Places.{find}

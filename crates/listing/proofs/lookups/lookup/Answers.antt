@@ -1,4 +1,4 @@
-use Rattle.std.proofs.Common.{◌≡◌, ℕ, cond, Some, None, Option, sym, refl, ap, ◌∙◌, subst}
+use Rattle.std.proofs.Common.{ℕ, cond, Some, None, Option, sym, refl, ap, ◌∙◌}
 use Rattle.model.specs.Lookups.{holding, entries}
 use Rattle.model.proofs.Worked.{worked_lookups, equal_lookups}
 use Rattle.book.specs.Places.{find}

@@ -1,4 +1,4 @@
-use Rattle.std.proofs.Common.{◌≡◌, ℕ, Option, sym, refl, ap, ◌∙◌, subst, MatchOption}
+use Rattle.std.proofs.Common.{ℕ, Option, sym, ◌∙◌, subst, MatchOption}
 use Rattle.model.specs.declared.blocks.SideBlock.{SideBlock}
 use Rattle.listing.specs.Marks.{Candidate, Best}
 use Rattle.listing.proofs.Picking.{best_skip, best_first, best_takes, best_keeps}

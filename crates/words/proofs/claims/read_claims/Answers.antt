@@ -1,4 +1,4 @@
-use Rattle.std.proofs.Common.{◌≡◌, ℕ, ◌*◌, ◌/◌, ◌%◌, ◌≤◌, length, sym, subst, arith, rules}
+use Rattle.std.proofs.Common.{◌≡◌, ℕ, ◌/◌, ◌%◌, length, sym, subst, arith, rules}
 use Rattle.words.proofs.ClaimWords.{ReadSoFar, read_none, read_more, read_all}
 use Rattle.words.proofs.claims.read_claims.Goals as goal
 

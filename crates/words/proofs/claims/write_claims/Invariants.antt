@@ -1,4 +1,4 @@
-use Rattle.std.proofs.Common.{◌≡◌, ◌*◌, true, length, drop}
+use Rattle.std.proofs.Common.{◌≡◌, ◌*◌, true, drop}
 use Rattle.words.specs.Claims.{claims_words, small_claims}
 use Rattle.words.specs.Places.{placed}
 use Rattle.words.proofs.claims.write_claims.Given as goal

@@ -1,8 +1,5 @@
-use Rattle.std.proofs.Common.{◌≡◌, ◌≤◌, length, refl, arith, rules}
-use Rattle.words.specs.Layouts.{kinds_of}
-use Rattle.words.specs.declared.layouts.Layout.TheVariants.{Claim}
+use Rattle.std.proofs.Common.{◌≡◌, length, refl, rules}
 use Rattle.words.proofs.Bodies.{claim_body}
-use Rattle.words.proofs.Fronts.{kinds_at_four, kinds_of_rest}
 use Rattle.words.proofs.reading.claim.Goals as goal
 
 pub returns : goal.returns

@@ -1,5 +1,5 @@
 use Rattle.std.proofs.Common.{◌≡◌, ◌≤◌, length, get_or, Some, None, sym, refl, rules}
-use Rattle.words.specs.Layouts.{layout_behind, kinds_of}
+use Rattle.words.specs.Layouts.{layout_behind}
 use Rattle.words.proofs.Bodies.{rest}
 use Rattle.words.proofs.Wholes.{announced, no_head, wrong_kinds, whole}
 use Rattle.words.proofs.reading.read.Goals as goal

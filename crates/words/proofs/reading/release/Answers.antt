@@ -1,4 +1,4 @@
-use Rattle.std.proofs.Common.{◌≡◌, ◌≤◌, length, refl, arith, rules}
+use Rattle.std.proofs.Common.{◌≤◌, length, refl, arith, rules}
 use Rattle.words.specs.Layouts.{kinds_of}
 use Rattle.words.specs.declared.layouts.Layout.TheVariants.{Release}
 use Rattle.words.proofs.Bodies.{release_body}

@@ -1,8 +1,8 @@
-use Rattle.std.proofs.Common.{◌≡◌, ◌≤◌, length, refl, arith, rules}
+use Rattle.std.proofs.Common.{◌≡◌, length, refl, arith, rules}
 use Rattle.words.specs.Layouts.{kinds_of}
 use Rattle.words.specs.declared.layouts.Layout.TheVariants.{Voices}
 use Rattle.words.proofs.Bodies.{voices_body}
-use Rattle.words.proofs.Fronts.{kinds_at_four, kinds_of_rest}
+use Rattle.words.proofs.Fronts.{kinds_at_four}
 use Rattle.words.proofs.reading.voices.Goals as goal
 
 pub name_from-requires : goal.name_from-requires

@@ -1,12 +1,12 @@
-use Rattle.std.proofs.Common.{◌≡◌, ℕ, ◌+◌, ◌<◌, min, true, ltb, List, [], ◌∷◌, ◌++◌, length, take, Ok, Err, Result, sym, refl, ap, ◌∙◌, subst, arith, length-take}
+use Rattle.std.proofs.Common.{◌≡◌, ℕ, min, List, [], ◌∷◌, ◌++◌, length, take, Ok, Err, Result, sym, ap, ◌∙◌, subst, arith, length-take}
 use Rattle.std.specs.List.{insert}
 use Rattle.std.proofs.lemmas.Bool.{ltb-true}
 use Rattle.model.specs.declared.names.Name.{Name}
 use Rattle.model.specs.declared.blocks.Block.{Block}
 use Rattle.model.specs.Blocks.{name_of}
-use Rattle.book.specs.Places.{find, Sound}
+use Rattle.book.specs.Places.{Sound}
 use Rattle.book.specs.Index.{Indexed, Sought}
-use Rattle.book.specs.Meaning.{blocks_of, index_of, book_of, count, bound, has_place}
+use Rattle.book.specs.Meaning.{blocks_of, index_of, book_of, count, bound}
 use Rattle.book.proofs.Finds.{sound_push, joins_new}
 use Rattle.book.proofs.Indexes.{indexed_push, found_none}
 use Rattle.book.proofs.Adding.{none_from}

@@ -1,5 +1,4 @@
 use Rattle.std.proofs.Common.{◌≡◌, ℕ, ◌+◌, ◌-◌, length, get_or, take, set, sym, ap, ◌∙◌, subst, arith, length-set}
-use Rattle.std.specs.List.{insert}
 use Rattle.std.proofs.lemmas.List.{take_more_set, get_or_default}
 use Rattle.book.proofs.Insertion.{Opened, opened_more, opened_inserts}
 use Rattle.book.proofs.rows.Rows.insert.Goals as goal

@@ -1,4 +1,4 @@
-use Rattle.std.proofs.Common.{◌≡◌, ◌+◌, ◌<◌, length, take, set, ap, ◌∙◌, arith, length-take, rules}
+use Rattle.std.proofs.Common.{◌+◌, ◌<◌, length, take, set, ap, ◌∙◌, arith, length-take}
 use Rattle.std.proofs.lemmas.List.{take_more_set, length_push, length-set, drop-set-lt}
 use Rattle.places.proofs.list.Bounded.put.Goals as goal
 
