@@ -1,14 +1,15 @@
 -- Masks of the stations that a test picks, and how claims add to them.
-use Rattle.std.proofs.Common.{◌≡◌, ℕ, zero, suc, ◌+◌, ◌*◌, ◌/◌, ◌%◌, ◌^◌, ◌<◌, ◌≤◌, max, Bool, true, false, cond, ◌&&◌, ◌||◌, eqb, ltb, leb, List, [], ◌∷◌, get_or, is_some, None, Option, sym, refl, ap, ◌∙◌, ap₂, arith, rules}
+use Rattle.std.proofs.Common.{◌≡◌, ℕ, zero, suc, ◌+◌, ◌*◌, ◌/◌, ◌%◌, ◌^◌, ◌<◌, ◌≤◌, Bool, true, false, cond, ◌&&◌, ◌||◌, eqb, ltb, leb, List, [], ◌∷◌, get_or, is_some, None, Option, sym, refl, ap, ◌∙◌, ap₂, inl, inr, arith, rules}
 use native.Mathlib.Nat.{pow-succ'}
-use lib.Bits.{bit_or, or_step}
-use Rattle.std.proofs.lemmas.Nat.{pow_pos, pow_below, or_shr, or_lt}
-use Rattle.std.proofs.lemmas.Bool.{eqb-true}
+use lib.Bits.{bit_or}
+use Rattle.std.proofs.lemmas.Nat.{pow_pos, pow_below, or_lt}
+use Rattle.std.proofs.lemmas.Nat.Bits.{bit_at_or, bit_at-pow_same, bit_at-pow_other, same_from_bits_below}
+use Rattle.std.proofs.lemmas.Bool.{eqb-true, eq-eqb, both_ways, cases_Bool}
 use Rattle.model.specs.declared.statements.OfferClaim.{OfferClaim}
 use Rattle.model.specs.Ledgers.{bit}
 use Rattle.model.specs.Quorums.{has}
-use Rattle.model.specs.Claims.{marked, claims_up_to, claimants, keepers, heights_below, ClaimLaws}
-use Rattle.model.proofs.Masks.{half_lt, half_pow, even_pow, has_up, has_low, has_none}
+use Rattle.model.specs.Claims.{marked, claims_up_to, claimants, keepers, ClaimLaws}
+use Rattle.model.proofs.Masks.{has_up, has_low, has_none}
 
 -- ---- masks by their stations
 
@@ -45,28 +46,22 @@ marked_below (suc n) t =
 
 -- masks with the same stations are one
 pub same_stations : (n a b : ℕ) → a < 2 ^ n → b < 2 ^ n → ((i : ℕ) → has a i ≡ has b i) → a ≡ b
-same_stations zero a b p q h = omega arith
-same_stations (suc n) a b p q h =
-    let r : a / 2 ≡ b / 2 = same_stations n (a / 2) (b / 2) (half_lt a n p) (half_lt b n q) (λ i. sym (has_up a i) ∙ h (suc i) ∙ has_up b i) in
-    let low : eqb (a % 2) 1 ≡ eqb (b % 2) 1 = sym (has_low a) ∙ h 0 ∙ has_low b in
-    let e : a % 2 ≡ b % 2 = search rules in
-    omega arith
+same_stations n a b p q h =
+    same_from_bits_below n a b p q (λ i _.
+    let e : eqb (a / 2 ^ i % 2) 1 ≡ eqb (b / 2 ^ i % 2) 1 = h i in
+    search rules)
 
 -- the mask of one station, and of two masks together
 pub has_one : (j i : ℕ) → has (2 ^ j) i ≡ eqb j i
-has_one zero zero = search rules
-has_one zero (suc i) = has_up 1 i ∙ has_none i ∙ search rules
-has_one (suc j) zero = has_low (2 ^ suc j) ∙ ap (λ x. eqb x 1) (even_pow j) ∙ search rules
-has_one (suc j) (suc i) = has_up (2 ^ suc j) i ∙ ap (λ k. has k i) (half_pow j) ∙ has_one j i ∙ search rules
+has_one j i = elim (cases_Bool (eqb j i)) [
+  | inl t ↦ ap (λ k. eqb (2 ^ j / 2 ^ k % 2) 1) (sym (eqb-true j i t)) ∙ ap (λ x. eqb x 1) (bit_at-pow_same j) ∙ sym t
+  | inr f ↦ ap (λ x. eqb x 1) (bit_at-pow_other j i (λ e. both_ways (eqb j i) f (eq-eqb j i (sym e)))) ∙ sym f
+]
 
 pub has_either : (a b i : ℕ) → has (bit_or a b) i ≡ (has a i || has b i)
 has_either a b i =
-    let x = a / 2 ^ i in
-    let y = b / 2 ^ i in
-    let s = or_step x y in
-    let o : bit_or x y % 2 ≡ max (x % 2) (y % 2) = omega arith in
-    let e : eqb (bit_or x y % 2) 1 ≡ (eqb (x % 2) 1 || eqb (y % 2) 1) = search rules in
-    ap (λ m. eqb (m % 2) 1) (or_shr a b i) ∙ e
+    let e = bit_at_or a b i in
+    search rules
 
 -- ---- how a claim, and a kept claim, adds to its mask
 
@@ -158,16 +153,6 @@ keepers_more n kept =
 pub keepers_none : (kept : List (Option ℕ)) → keepers 0 kept ≡ 0
 unfolding keepers marked
 keepers_none kept = refl
-
--- ---- heights
-
-pub below_more : (u : ℕ) (c : OfferClaim) (cs : List OfferClaim) → heights_below u (c ∷ cs) ≡ (ltb c.height u && heights_below u cs)
-unfolding heights_below
-below_more u c cs = refl
-
-pub below_none : (u : ℕ) → heights_below u [] ≡ true
-unfolding heights_below
-below_none u = refl
 
 pub claim_laws : ClaimLaws
 unfolding claimants keepers

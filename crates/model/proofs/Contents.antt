@@ -1,6 +1,6 @@
 -- Blocks of one content are equal.
 use Rattle.std.proofs.Common.{◌≡◌, ℕ, Bool, true, false, ◌&&◌, eqb, List, [], ◌∷◌, Decides, sym, refl, ap, ◌∙◌, subst}
-use Rattle.std.proofs.lemmas.Bool.{eqb-true, eq-eqb, and_parts, and_from, both_ways}
+use Rattle.std.proofs.lemmas.Bool.{eqb-true, eq-eqb, and_parts, and_from}
 use Rattle.model.specs.Names.{same}
 use Rattle.model.specs.Blocks.{referred, same_names, same_entry, same_parent, same_side, same_backbone, same_block}
 use Rattle.model.specs.declared.names.Name.{Name}
@@ -14,9 +14,10 @@ use Rattle.model.specs.declared.blocks.BackboneBlock.{BackboneBlock}
 use Rattle.model.specs.declared.blocks.Block.{Block}
 use Rattle.model.specs.declared.blocks.Block.TheVariants.{Side, Backbone}
 use Rattle.model.proofs.Naming.{same_true, same_refl}
+use Rattle.std.proofs.lemmas.Bool.{false≢true}
 
 never : {X : Type 0} → false ≡ true → X
-never e = absurd (both_ways true (sym e) refl)
+never e = absurd (false≢true e)
 
 names_true : (xs ys : List Name) → same_names xs ys ≡ true → xs ≡ ys
 names_true [] [] e = refl

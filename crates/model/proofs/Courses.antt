@@ -26,6 +26,7 @@ use Rattle.model.specs.Claiming.{Grounds, keeping, granting, ClaimCall, GroundCa
 use Rattle.model.specs.Passing.{probing, leaving, probe_posts, leave_posts, ProbeCall, LeaveCall}
 use Rattle.model.specs.Voting.{offered_questions, offered_form, offered_fit, voices_questions, voices_form, voices_fit, grade_at, gave, certifying, giving, completing, voicing, voices_posts, Voiced, OfferCall, VoicesCall}
 use Rattle.model.specs.StationLaws.{Follows, CallsFollow, VotesOnce}
+use Rattle.model.proofs.Clash.{clash}
 
 -- ---- tables of questions that are all answered yes
 
@@ -35,7 +36,7 @@ AllYes (q ∷ qs) = (q.1 ≡ true) × AllYes qs
 
 yes : (n : ℕ) (b : Bool) (r : Option ℕ) → cond b r (Some n) ≡ None → (b ≡ true) × (r ≡ None)
 yes n true r h = (refl, h)
-yes n false r h = let z : ◌≡◌ {A = ℕ} 0 1 = cc in absurd (omega arith)
+yes n false r h = clash cc
 
 all_yes : (qs : List Question) → first_no qs ≡ None → AllYes qs
 all_yes [] h = tt
@@ -43,7 +44,7 @@ all_yes (q ∷ qs) h = let p = yes q.0 q.1 (first_no qs) h in (p.0, all_yes qs p
 
 none : (f : Option Name) → not (is_some f) ≡ true → f ≡ None
 none None h = refl
-none (Some x) h = let z : ◌≡◌ {A = ℕ} 0 1 = cc in absurd (omega arith)
+none (Some x) h = clash cc
 
 -- ---- steps
 
@@ -85,9 +86,9 @@ shut_stays (Given x) h = refl
 shut_stays Shut h = refl
 
 shut_waits_no_more : (s : SecondVote) → after s Shutting ≡ Waiting → ⊥
-shut_waits_no_more Waiting h = let z : ◌≡◌ {A = ℕ} 0 1 = cc in omega arith
-shut_waits_no_more (Given x) h = let z : ◌≡◌ {A = ℕ} 0 1 = cc in omega arith
-shut_waits_no_more Shut h = let z : ◌≡◌ {A = ℕ} 0 1 = cc in omega arith
+shut_waits_no_more Waiting h = clash cc
+shut_waits_no_more (Given x) h = clash cc
+shut_waits_no_more Shut h = clash cc
 
 probed : (c : Core) → Follows c (probing c)
 probed c = go (adopts c)
@@ -105,7 +106,7 @@ probed c = go (adopts c)
 
 not_waiting : (c : Core) (x : Certificate) (h k : ℕ) (t : Bool) → NoAdopt h ≡ cond t (Adopt x) (NoAdopt k)
     → (cond t c (with_cast (closed c.cast) c)).cast.second ≡ Waiting → ⊥
-not_waiting c x h k true e w = let z : ◌≡◌ {A = ℕ} 0 1 = cc in omega arith
+not_waiting c x h k true e w = clash cc
 not_waiting c x h k false e w = shut_waits_no_more c.cast.second w
 
 left : (c : Core) → Follows c (leaving c)
@@ -149,7 +150,7 @@ voicing_rises c o m =
     (omega arith, omega arith)
 
 giving_reaches : (y : Option Name) (x : Name) (c : Core) → y ≡ Some x → view c ≤ height (giving y c)
-giving_reaches None x c h = let z : ◌≡◌ {A = ℕ} 0 1 = cc in absurd (omega arith)
+giving_reaches None x c h = clash cc
 giving_reaches (Some y) x c h = (higher_rises c.state.highest _).1
 
 voicing_reaches : (c : Core) (o : Voices) (m : Meaning) (x : Name) → gave c.cast.second m.second ≡ Some x → m.view ≤ height (voicing c o m)
@@ -161,8 +162,8 @@ voicing_reaches c o m x h =
 
 gave_waiting : (s t : SecondVote) (x : Name) → gave s t ≡ Some x → s ≡ Waiting
 gave_waiting Waiting t x h = refl
-gave_waiting (Given y) t x h = let z : ◌≡◌ {A = ℕ} 0 1 = cc in absurd (omega arith)
-gave_waiting Shut t x h = let z : ◌≡◌ {A = ℕ} 0 1 = cc in absurd (omega arith)
+gave_waiting (Given y) t x h = clash cc
+gave_waiting Shut t x h = clash cc
 
 voiced_core : (d : Desk) (o : Voices) (d' : Desk) (w : Voiced Hears d o d') → d'.core ≡ voicing d.core o d'.core.cast
 voiced_core d o d' w =
@@ -217,7 +218,7 @@ offered d K o cs d' u p =
     })
   where
     none_some : (x : Name) → ◌≡◌ {A = Option Name} None (Some x) → ⊥
-    none_some x e = let z : ◌≡◌ {A = ℕ} 0 1 = cc in omega arith
+    none_some x e = clash cc
 
 core_of_still : (d d' : Desk) → d' ≡ d → Follows d.core d'.core
 core_of_still d d' h = still d.core d'.core (ap (λ (x : Desk). x.core) h)

@@ -1,5 +1,5 @@
 -- Entering a mask, and giving the second vote with the first quorum, keeps the clauses of every broadcast.
-use Rattle.std.proofs.Common.{◌≡◌, ℕ, Bool, true, false, cond, not, ◌⊎◌, List, [], ◌∷◌, is_some, Some, None, Ok, Err, Option, Result, refl, inl, inr, ⊎_elim, arith}
+use Rattle.std.proofs.Common.{◌≡◌, ℕ, Bool, true, false, cond, not, ◌⊎◌, List, [], ◌∷◌, is_some, Some, None, Ok, Err, Option, Result, refl, inl, inr, ⊎_elim}
 use Rattle.std.proofs.lemmas.Bool.{and_parts}
 use Rattle.model.specs.declared.names.Name.{Name}
 use Rattle.model.specs.declared.refusals.Refusal.{Refusal}
@@ -12,6 +12,7 @@ use Rattle.model.specs.Quorums.{has, quorum, Quorum}
 use Rattle.model.specs.Ledgers.{at, under}
 use Rattle.model.specs.Broadcasts.{Meaning, ledger, Asking, hear_questions, entered, newly, given, heard, Hears}
 use Rattle.model.proofs.Ledgers.{at_enter}
+use Rattle.model.proofs.Clash.{clash}
 
 entries : (m : Meaning) (g : Grade) (x : Name) (k : ℕ) (h : Grade) (i : ℕ)
     → (at (ledger (entered m g x k) h) i ≡ at (ledger m h) i)
@@ -62,5 +63,5 @@ accepted fits free m g x k = both (fits m g x k) (free m g x k)
   where
     both : (a b : Bool) → first_no ((13, a) ∷ (14, b) ∷ []) ≡ None → (a ≡ true) × (b ≡ true)
     both true true h = (refl, refl)
-    both true false h = let z : ◌≡◌ {A = ℕ} 0 1 = cc in absurd (omega arith)
-    both false b h = let z : ◌≡◌ {A = ℕ} 0 1 = cc in absurd (omega arith)
+    both true false h = clash cc
+    both false b h = clash cc

@@ -1,6 +1,5 @@
 -- What entering the stations of a mask does to a ledger.
 use Rattle.std.proofs.Common.{◌≡◌, ℕ, zero, suc, ◌+◌, ◌-◌, ◌*◌, ◌/◌, ◌%◌, ◌^◌, ◌<◌, ◌≤◌, max, Bool, true, false, cond, not, ◌||◌, eqb, ◌⊎◌, [], ◌∷◌, length, drop, set, replicate, is_some, Some, None, Option, sym, refl, ap, ◌∙◌, ap₂, inl, inr, ⊎_elim, arith, rules}
-use native.Mathlib.Nat.{pow-succ'}
 use lib.Bits.{bit_and, bit_or, and_step, or_step}
 use Rattle.std.proofs.lemmas.List.{at_drop_more, at_drop_all}
 use Rattle.std.proofs.lemmas.Bool.{false≢true}
@@ -9,10 +8,11 @@ use Rattle.model.specs.Names.{same}
 use Rattle.model.specs.Quorums.{has}
 use Rattle.model.specs.Ledgers.{Ledger, at, is, bit, entry, under, enter, clear, vacant}
 use Rattle.model.proofs.Masks.{half_lt, half_pow, even_pow, has_up, has_low}
+use Rattle.model.proofs.Clash.{clash}
 
 -- an entry is a name or none
 pub some_none : {A : Type 0} (y : Name) → ◌≡◌ {A = Option Name} (Some y) None → A
-some_none y h = let z : ◌≡◌ {A = ℕ} 0 1 = cc in absurd (omega arith)
+some_none y h = clash cc
 
 -- an entry is as it was, or the station is in the mask, had none and has the name now
 pub at_enter : (x : Name) (k : ℕ) (l : Ledger) (i : ℕ)
@@ -135,9 +135,3 @@ unfolding under
 under_more x l i p h =
     let e : i - 1 + 1 ≡ i = omega arith in
     at_drop_more (under x) l (i - 1) None (omega arith) ∙ ap (λ j. bit (is x (at l (i - 1))) + 2 * under x (drop j l)) e
-
-pub double_lt : (m i : ℕ) → 0 < i → i ≤ 28 → m < 2 ^ (28 - i) → m * 2 + 1 < 2 ^ (28 - (i - 1))
-double_lt m i p h l =
-    let e : 28 - (i - 1) ≡ suc (28 - i) = omega arith in
-    let q : 2 ^ (28 - (i - 1)) ≡ 2 * 2 ^ (28 - i) = ap (λ j. 2 ^ j) e ∙ pow-succ' 2 (28 - i) in
-    omega arith

@@ -1,3 +1,4 @@
+pub mod Clash
 pub mod Masks
 pub mod Meetings
 pub mod Ledgers
@@ -7,6 +8,7 @@ pub mod Makes
 pub mod Completions
 pub mod Naming
 pub mod Contents
+pub mod Derived
 pub mod OrderLaws
 pub mod OneListing
 pub mod Worked

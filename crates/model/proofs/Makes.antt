@@ -1,5 +1,5 @@
 -- Both makes keep the clauses of every broadcast, and the call that first gives ledger 1 a quorum gives a waiting second vote.
-use Rattle.std.proofs.Common.{◌≡◌, ℕ, ◌+◌, ◌*◌, ◌/◌, ◌%◌, ◌<◌, Bool, true, false, cond, not, eqb, ◌⊎◌, [], ◌∷◌, length, is_some, Some, None, Option, sym, refl, ap, ◌∙◌, subst, ap₂, inl, arith, rules}
+use Rattle.std.proofs.Common.{◌≡◌, ℕ, ◌+◌, ◌*◌, ◌/◌, ◌%◌, ◌<◌, Bool, true, false, cond, not, eqb, ◌⊎◌, [], ◌∷◌, length, is_some, Some, None, Option, sym, refl, ap, ◌∙◌, subst, ap₂, inl, rules}
 use Rattle.std.proofs.lemmas.Bool.{and_parts, and_from, both_ways, not-true, true≢false}
 use Rattle.model.specs.declared.names.Name.{Name}
 use Rattle.model.specs.declared.numbers.Numbers.{Numbers}
@@ -13,9 +13,11 @@ use Rattle.model.specs.Ledgers.{Ledger, at, is, bit, entry, under, enter, clear,
 use Rattle.model.specs.Broadcasts.{Meaning, Keeps, Hears, ledger, entered, newly, given, heard}
 use Rattle.model.specs.Makes.{tally_fits, tally_free, tally_hears, relay_fits, relay_free, relay_sends, relay_hears}
 use Rattle.model.specs.Laws.{FirstQuorumGives, AllEnter}
+use Rattle.model.proofs.Naming.{same_true, same_refl}
 use Rattle.model.proofs.Ledgers.{some_none}
 use Rattle.model.proofs.Hearings.{heard_keeps, same_ledger}
 use Rattle.model.proofs.Stations.{one_quorum, enters, clears}
+use Rattle.model.proofs.Clash.{clash}
 
 pub tally_keeps : Keeps tally_fits tally_free tally_hears
 tally_keeps m g x k send m' a b h =
@@ -44,12 +46,6 @@ under_other x y k [] h = refl
 under_other x y k (e ∷ es) h =
     ap₂ (λ a r. a + 2 * r) (other_entry x y (eqb (k % 2) 1) e h) (under_other x y (k / 2) es h)
 
-pub same_is : (x y : Name) → same y x ≡ true → y ≡ x
-same_is x y h = search rules
-
-pub same_self : (x : Name) → same x x ≡ true
-same_self x = search rules
-
 not_full : (s : Numbers) (l : Ledger) (x : Name) → (Quorum s (under x l) → ⊥) → not (full s l x) ≡ true
 not_full s l x h = go (full s l x) refl
   where
@@ -65,7 +61,7 @@ when_first m One x k w y q none = go (same y x) refl
     go : (b : Bool) → same y x ≡ b → (heard m One x k).second ≡ Given y
     go false e = absurd (none y (ap (quorum m.numbers) (sym (under_other x y k m.one e)) ∙ q))
     go true e =
-        let i : y ≡ x = same_is x y e in
+        let i : y ≡ x = same_true y x e in
         let f : full m.numbers (enter x k m.one) x ≡ true = ap (λ z. quorum m.numbers (under z (enter x k m.one))) (sym i) ∙ q in
         let n : newly m One x k ≡ true =
         and_from (not (full m.numbers m.one x)) (full m.numbers (enter x k m.one) x) (not_full m.numbers m.one x (none x)) f in
@@ -73,16 +69,16 @@ when_first m One x k w y q none = go (same y x) refl
 
 given_for : (v : SecondVote) (b : Bool) (g : Grade) (x y : Name) → v ≡ Waiting → cond b (given g v x) v ≡ Given y → (b ≡ true) × (g ≡ One) × (y ≡ x)
 given_for Waiting true One x y w e = (refl, refl, cc)
-given_for Waiting true Two x y w e = let z : ◌≡◌ {A = ℕ} 0 1 = cc in absurd (omega arith)
-given_for Waiting false g x y w e = let z : ◌≡◌ {A = ℕ} 0 1 = cc in absurd (omega arith)
-given_for (Given u) b g x y w e = let z : ◌≡◌ {A = ℕ} 0 1 = cc in absurd (omega arith)
-given_for Shut b g x y w e = let z : ◌≡◌ {A = ℕ} 0 1 = cc in absurd (omega arith)
+given_for Waiting true Two x y w e = clash cc
+given_for Waiting false g x y w e = clash cc
+given_for (Given u) b g x y w e = clash cc
+given_for Shut b g x y w e = clash cc
 
 only_first : (m : Meaning) (g : Grade) (x : Name) (k : ℕ) → m.second ≡ Waiting → (y : Name) → (heard m g x k).second ≡ Given y
     → (Quorum m.numbers (under y (heard m g x k).one)) × ((z : Name) → Quorum m.numbers (under z m.one) → ⊥)
 only_first m Two x k w y e =
     let h = given_for m.second (newly m Two x k) Two x y w e in
-    let z : ◌≡◌ {A = ℕ} 0 1 = cc in absurd (omega arith)
+    clash cc
 only_first m One x k w y e =
     let h = given_for m.second (newly m One x k) One x y w e in
     let p = and_parts (not (full m.numbers m.one x)) (full m.numbers (enter x k m.one) x) h.0 in
@@ -91,11 +87,11 @@ only_first m One x k w y e =
   where
     go : (z : Name) → Quorum m.numbers (under z m.one) → full m.numbers m.one x ≡ false → full m.numbers (enter x k m.one) x ≡ true
         → (b : Bool) → same z x ≡ b → ⊥
-    go z o n f true e = both_ways (full m.numbers m.one x) n (ap (λ u. quorum m.numbers (under u m.one)) (sym (same_is x z e)) ∙ o)
+    go z o n f true e = both_ways (full m.numbers m.one x) n (ap (λ u. quorum m.numbers (under u m.one)) (sym (same_true z x e)) ∙ o)
     go z o n f false e =
         let j : Quorum m.numbers (under z (enter x k m.one)) = ap (quorum m.numbers) (under_other x z k m.one e) ∙ o in
         let i : z ≡ x = one_quorum m.numbers (enter x k m.one) z x j f in
-        both_ways (same z x) e (ap (λ u. same u x) i ∙ same_self x)
+        both_ways (same z x) e (ap (λ u. same u x) i ∙ same_refl x)
 
 pub first_quorum_gives : FirstQuorumGives
 first_quorum_gives m g x k = record { when = when_first m g x k; only = only_first m g x k }

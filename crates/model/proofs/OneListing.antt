@@ -14,15 +14,16 @@ use Rattle.model.specs.Orders.{Before, Lawful}
 use Rattle.model.specs.Listing.{has, Reached, direct, onward, First, Lines, done, next}
 use Rattle.model.specs.Chains.{OnChain, here, up, Listing, none, more, Agree, OneListing, ListingsBegin, ListingsStay}
 use Rattle.model.proofs.Naming.{cases_name, same_true}
+use Rattle.std.proofs.lemmas.Bool.{false≢true}
 
 pub side_there : (o : Option Block) → is_side o ≡ true → (s : SideBlock) × (o ≡ Some (Side s))
-side_there None e = absurd (both_ways true (sym e) refl)
+side_there None e = absurd (false≢true e)
 side_there (Some (Side s)) e = (s, refl)
-side_there (Some (Backbone b)) e = absurd (both_ways true (sym e) refl)
+side_there (Some (Backbone b)) e = absurd (false≢true e)
 
 -- a name among held ones is that of a side block
 pub held_there : (K : Book) (names : List Name) (n : Name) → sides_held K names ≡ true → has names n ≡ true → (s : SideBlock) × (K n ≡ Some (Side s))
-held_there K [] n h e = absurd (both_ways true (sym e) refl)
+held_there K [] n h e = absurd (false≢true e)
 held_there K (r ∷ rs) n h e =
     let p = and_parts (is_side (K r)) (sides_held K rs) h in
     elim (or_cases (same r n) (has rs n) e) [

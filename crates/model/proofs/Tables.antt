@@ -1,10 +1,10 @@
 -- A table of questions in two parts.
-use Rattle.std.proofs.Common.{◌≡◌, ℕ, Bool, true, false, cond, List, [], ◌∷◌, ◌++◌, Some, None, Ok, Err, Option, Result, refl, ◌∙◌, arith}
-use Rattle.model.specs.declared.refusals.Refusal.{Refusal}
-use Rattle.model.specs.Questions.{Question, first_no, Judged}
+use Rattle.std.proofs.Common.{◌≡◌, ℕ, Bool, true, false, cond, List, [], ◌∷◌, ◌++◌, Some, None, Option, refl}
+use Rattle.model.specs.Questions.{Question, first_no}
+use Rattle.model.proofs.Clash.{clash}
 
 no_answer : {A : Type 0} (k : ℕ) → ◌≡◌ {A = Option ℕ} (Some k) None → A
-no_answer k h = let z : ◌≡◌ {A = ℕ} 0 1 = cc in absurd (omega arith)
+no_answer k h = clash cc
 
 -- where the first part is answered yes, the second answers
 pub first_yes : (a b : List Question) → first_no a ≡ None → first_no (a ++ b) ≡ first_no b
@@ -18,16 +18,10 @@ first_yes (q ∷ qs) b h = go q.1 (first_yes qs b) h
 
 -- a no in the first part stands
 pub first_stands : (a b : List Question) (n : ℕ) → first_no a ≡ Some n → first_no (a ++ b) ≡ Some n
-first_stands [] b n h = let z : ◌≡◌ {A = ℕ} 0 1 = cc in absurd (omega arith)
+first_stands [] b n h = clash cc
 first_stands (q ∷ qs) b n h = go q.1 (first_stands qs b n) h
   where
     go : (t : Bool) → (first_no qs ≡ Some n → first_no (qs ++ b) ≡ Some n) → cond t (first_no qs) (Some q.0) ≡ Some n
         → cond t (first_no (qs ++ b)) (Some q.0) ≡ Some n
     go true rest k = rest k
     go false rest k = k
-
--- a judge of the second part, once the first is answered yes, judges the whole
-pub then_judged : {T : Type 0} (a b : List Question) (done : T → Type 0) (r : Result T Refusal)
-    → first_no a ≡ None → Judged b done r → Judged (a ++ b) done r
-then_judged a b done (Ok x) h j = (first_yes a b h ∙ j.0, j.1)
-then_judged a b done (Err e) h j = first_yes a b h ∙ j

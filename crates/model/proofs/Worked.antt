@@ -11,7 +11,7 @@ use Rattle.model.specs.Orders.{Before, by_author, by_sonde}
 use Rattle.model.specs.Listing.{has, Ready, Reached, direct, onward, Lines, done, next}
 use Rattle.model.specs.Chains.{none, more}
 use Rattle.model.specs.Lookups.{holding, entries, entry_there, EqualLookups}
-use Rattle.model.specs.Examples.{named, s1, s3, s4, b5, four, WorkedListing, WorkedLookups}
+use Rattle.model.specs.Examples.{named, s1, s3, s4, b5, four, WorkedListing}
 use Rattle.model.proofs.Naming.{same_true, same_refl}
 
 nope : {X : Type 0} → true ≡ false → X
@@ -102,9 +102,6 @@ by_sonde_lines =
 pub worked_listing : WorkedListing
 unfolding start
 worked_listing = (more b5 refl (none refl) by_author_lines, more b5 refl (none refl) by_sonde_lines)
-
-pub worked_lookups : WorkedLookups
-worked_lookups = (refl, refl, refl, refl)
 
 -- the entries of lines that two books hold alike
 same_entries : (K K' : Book) (L : List Name) → ((n : Name) → has L n ≡ true → K n ≡ K' n) → entries K L ≡ entries K' L

@@ -4,6 +4,7 @@ use Rattle.model.specs.Names.{same}
 use Rattle.model.specs.declared.names.Name.{Name}
 use Rattle.model.specs.declared.blocks.References.{References}
 use Rattle.model.specs.declared.blocks.References.TheVariants.{Empty, One, Two, Three, Four}
+use Rattle.model.specs.declared.blocks.Names.{Names}
 use Rattle.model.specs.declared.blocks.Entry.{Entry}
 use Rattle.model.specs.declared.blocks.Entry.TheVariants.{Bind, Release}
 use Rattle.model.specs.declared.blocks.SideBlock.{SideBlock}
@@ -19,6 +20,10 @@ referred (One a) = a ∷ []
 referred (Two a b) = a ∷ b ∷ []
 referred (Three a b c) = a ∷ b ∷ c ∷ []
 referred (Four a b c d) = a ∷ b ∷ c ∷ d ∷ []
+
+-- the names that an iterator over references has still to give
+abbrev pub names_left : Names → List Name
+names_left names = referred names.left
 
 abbrev pub name_of : Block → Name
 name_of (Side s) = s.name

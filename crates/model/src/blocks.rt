@@ -1,11 +1,13 @@
-ghost use Rattle.std.specs.Prelude.{◌≡◌, ℕ, [], ◌∷◌, ◌++◌, length, Decides, MatchOption};
-ghost use Rattle.model.specs.Blocks.{referred, name_of, same_names, same_entry, same_parent, same_side, same_backbone, same_block};
+ghost use Rattle.std.specs.Prelude.{◌≡◌, ℕ, [], ◌∷◌, ◌++◌, length, MatchOption};
+ghost use Rattle.std.specs.Iterator.{YieldsFirst, item_count};
+ghost use Rattle.model.specs.Blocks.{referred, names_left, name_of};
+ghost use Rattle.model.specs.Ranges.{author_of};
 
 use crate::names::Name;
 
 /// What a side block enters into the register: a sonde's number is bound to a calibration certificate for a flight,
 /// or released from a flight. Each number is from 1 to 2^28 - 1.
-#[derive(Clone, Copy)]
+#[derive(Clone, Copy, Debug, PartialEq, Eq)]
 pub enum Entry {
     Bind {
         sonde: u32,
@@ -19,7 +21,7 @@ pub enum Entry {
 }
 
 /// Up to four names of side blocks, in their order. Its cases leave no two forms for one row of names.
-#[derive(Clone, Copy)]
+#[derive(Clone, Copy, Debug, PartialEq, Eq)]
 pub enum References {
     Empty,
     One(Name),
@@ -28,8 +30,14 @@ pub enum References {
     Four(Name, Name, Name, Name),
 }
 
+/// The names of references that are still to come, first to last.
+#[derive(Drop)]
+pub struct Names {
+    pub(crate) left: References,
+}
+
 /// A block that carries one entry.
-#[derive(Clone, Copy)]
+#[derive(Clone, Copy, Debug, PartialEq, Eq)]
 pub struct SideBlock {
     pub name: Name,
     pub author: u32,
@@ -38,14 +46,14 @@ pub struct SideBlock {
 }
 
 /// The backbone block below a backbone block: genesis, or one of a lower view.
-#[derive(Clone, Copy)]
+#[derive(Clone, Copy, Debug, PartialEq, Eq)]
 pub struct Parent {
     pub view: u32,
     pub name: Name,
 }
 
 /// A block of the chain that the stations agree on, one to a view.
-#[derive(Clone, Copy)]
+#[derive(Clone, Copy, Debug, PartialEq, Eq)]
 pub struct BackboneBlock {
     pub name: Name,
     pub author: u32,
@@ -55,7 +63,7 @@ pub struct BackboneBlock {
 }
 
 /// A block of either sort.
-#[derive(Clone, Copy)]
+#[derive(Clone, Copy, Debug, PartialEq, Eq)]
 pub enum Block {
     Side(SideBlock),
     Backbone(BackboneBlock),
@@ -100,80 +108,31 @@ impl References {
             References::Four(a, b, c, d) => Some((a, References::Three(b, c, d))),
         }
     }
+}
 
-    /// Whether these are the same names in the same number and order.
-    pub fn same(self, other: References) -> bool
-        ensures { result ≡ same_names (referred self) (referred other) }
-    {
-        match (self.split_first(), other.split_first()) {
-            (None, None) => true,
-            (Some((a, rest)), Some((b, more))) => a.is(b) && rest.same(more),
-            _ => false,
-        }
+impl IntoIterator for References {
+    type Item = Name;
+
+    type IntoIter = Names;
+
+    ghost into_iter_gives = { λ references names. names_left names ≡ referred references };
+
+    fn into_iter(self) -> Names {
+        Names { left: self }
     }
 }
 
-impl Entry {
-    /// Whether the two entries are one.
-    pub fn same(self, other: Entry) -> bool
-        ensures { result ≡ same_entry self other }
-    {
-        match (self, other) {
-            (
-                Entry::Bind {
-                    sonde,
-                    certificate,
-                    flight,
-                },
-                Entry::Bind {
-                    sonde: s,
-                    certificate: c,
-                    flight: f,
-                },
-            ) => sonde == s && certificate == c && flight == f,
-            (
-                Entry::Release { sonde, flight },
-                Entry::Release {
-                    sonde: s,
-                    flight: f,
-                },
-            ) => sonde == s && flight == f,
-            _ => false,
-        }
-    }
-}
+impl Iterator for Names {
+    type Item = Name;
 
-impl SideBlock {
-    /// Whether every field is equal.
-    pub fn same(self, other: SideBlock) -> bool
-        ensures { result ≡ same_side self other }
-    {
-        self.name.is(other.name)
-            && self.author == other.author
-            && self.entry.same(other.entry)
-            && self.references.same(other.references)
-    }
-}
+    ghost next_gives = { YieldsFirst names_left };
 
-impl Parent {
-    /// Whether view and name are equal.
-    pub fn same(self, other: Parent) -> bool
-        ensures { result ≡ same_parent self other }
-    {
-        self.view == other.view && self.name.is(other.name)
-    }
-}
+    ghost remaining = { item_count names_left };
 
-impl BackboneBlock {
-    /// Whether every field is equal.
-    pub fn same(self, other: BackboneBlock) -> bool
-        ensures { result ≡ same_backbone self other }
-    {
-        self.name.is(other.name)
-            && self.author == other.author
-            && self.view == other.view
-            && self.parent.same(other.parent)
-            && self.references.same(other.references)
+    fn next(&mut self) -> Option<Name> {
+        let (first, behind) = self.left.split_first()?;
+        self.left = behind;
+        Some(first)
     }
 }
 
@@ -188,15 +147,13 @@ impl Block {
         }
     }
 
-    /// Whether the two blocks have one content: every field is equal.
-    pub fn same(self, other: Block) -> bool
-        ensures value { result ≡ same_block self other }
-        ensures equal { Decides result (self ≡ other) }
+    /// Who made it.
+    pub fn author(self) -> u32
+        ensures { result ≡ author_of self }
     {
-        match (self, other) {
-            (Block::Side(a), Block::Side(b)) => a.same(b),
-            (Block::Backbone(a), Block::Backbone(b)) => a.same(b),
-            _ => false,
+        match self {
+            Block::Side(side) => side.author,
+            Block::Backbone(backbone) => backbone.author,
         }
     }
 }

@@ -70,10 +70,6 @@ impl Numbers {
     pub fn only_station(self, mask: u32) -> Option<usize>
         ensures { MatchOption result (single self mask ≡ false) (λ i. (single self mask ≡ true) × (mask ≡ 2 ^ i) × (i < stations self)) }
     {
-        if mask.count_ones() == 1 && self.is_within(mask) {
-            Some(mask.trailing_zeros() as usize)
-        } else {
-            None
-        }
+        (mask.count_ones() == 1 && self.is_within(mask)).then_some(mask.trailing_zeros() as usize)
     }
 }

@@ -1,17 +1,19 @@
-ghost use Rattle.std.specs.Prelude.{◌≡◌};
+ghost use Rattle.std.specs.Prelude.{◌≡◌, ok_or};
+ghost use Rattle.model.specs.declared.refusals.Refusal.TheVariants.{OutOfRange};
 ghost use Rattle.model.specs.Votes.{graded, grade_of, after};
 
 use crate::names::Name;
+use crate::refusals::Refusal;
 
 /// The two grades of a voice: a first vote is a voice of grade 1, a second vote one of grade 2.
-#[derive(Clone, Copy)]
+#[derive(Clone, Copy, Debug, PartialEq, Eq)]
 pub enum Grade {
-    One,
-    Two,
+    One = 1,
+    Two = 2,
 }
 
 /// A view's second vote.
-#[derive(Clone, Copy)]
+#[derive(Clone, Copy, Debug, PartialEq, Eq)]
 pub enum SecondVote {
     Waiting,
     Given(Name),
@@ -19,33 +21,32 @@ pub enum SecondVote {
 }
 
 /// What bears on a second vote: a quorum heard for a name, the vote shut, a view opened.
-#[derive(Clone, Copy)]
+#[derive(Clone, Copy, Debug, PartialEq, Eq)]
 pub enum Event {
     HeardQuorum(Name),
     Shutting,
     Opening,
 }
 
-impl Grade {
-    /// The grade of that number, if it is one.
-    pub fn of(number: u32) -> Option<Grade>
-        ensures { result ≡ grade_of number }
-    {
+impl TryFrom<u32> for Grade {
+    type Error = Refusal;
+
+    ghost try_from_gives = { λ number r. r ≡ ok_or (grade_of number) OutOfRange };
+
+    fn try_from(number: u32) -> Result<Grade, Refusal> {
         match number {
-            1 => Some(Grade::One),
-            2 => Some(Grade::Two),
-            _ => None,
+            1 => Ok(Grade::One),
+            2 => Ok(Grade::Two),
+            _ => Err(Refusal::OutOfRange),
         }
     }
+}
 
-    /// Its number.
-    pub fn number(self) -> u32
-        ensures { result ≡ graded self }
-    {
-        match self {
-            Grade::One => 1,
-            Grade::Two => 2,
-        }
+impl From<Grade> for u32 {
+    ghost from_gives = { λ grade number. number ≡ graded grade };
+
+    fn from(grade: Grade) -> u32 {
+        grade as u32
     }
 }
 
