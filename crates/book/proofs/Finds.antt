@@ -1,9 +1,10 @@
 -- What a search for a name comes to, and blocks that join.
-use Rattle.std.proofs.Common.{◌≡◌, ℕ, zero, suc, ◌<◌, ◌≤◌, Bool, true, false, cond, not, ◌&&◌, ltb, List, [], ◌∷◌, ◌++◌, length, take, is_some, Some, None, sym, refl, ap, ◌∙◌, subst, inl, inr, arith}
+use Rattle.std.proofs.Common.{◌≡◌, ℕ, zero, suc, ◌<◌, ◌≤◌, true, false, cond, not, ◌&&◌, ltb, List, [], ◌∷◌, ◌++◌, length, take, is_some, Some, None, sym, Option, refl, ap, ◌∙◌, subst, inl, inr, arith}
 use Rattle.std.specs.List.{slice_get}
 use Rattle.std.proofs.lemmas.List.{get_or_append_left, get_or_push, take-append-le, take_at, length_push}
-use Rattle.std.proofs.lemmas.Option.{slice_get-get_or, slice_get_past}
-use Rattle.std.proofs.lemmas.Bool.{cond-true, cond-false, cases_Bool, cases_order, and_from, and_parts, not-true, both_ways, ltb-true}
+use Rattle.std.proofs.lemmas.Option.{slice_get-get_or, slice_get_past, none-some}
+use Rattle.std.proofs.lemmas.Grind.{common_steps}
+use Rattle.std.proofs.lemmas.Bool.{cond-true, cond-false, cases_Bool, cases_order, and_parts, not-true, both_ways, ltb-true}
 use Rattle.model.specs.declared.names.Name.{Name}
 use Rattle.model.specs.declared.blocks.BackboneBlock.{BackboneBlock}
 use Rattle.model.specs.declared.blocks.Block.{Block}
@@ -14,37 +15,22 @@ use Rattle.model.specs.Books.{Book, genesis, in_order, named_held}
 use Rattle.model.proofs.Naming.{same_true, eq_same}
 use Rattle.book.specs.Places.{find, joins, Sound}
 
+-- a first block x, and b in front of the rest, where not both have the name that is looked for
+front_apart : (x b : Block) (n : Name) (rest : Option Block) → (same (name_of x) n ≡ true → same (name_of b) n ≡ true → ⊥) → cond (same (name_of x) n) (Some x) (cond (same (name_of b) n) (Some b) rest) ≡ cond (same (name_of b) n) (Some b) (cond (same (name_of x) n) (Some x) rest)
+front_apart x b n rest apart = grind (arith, common_steps)
+
 -- one block more, of a new name
 pub find_push : (bs : List Block) (b : Block) (n : Name) → find bs (name_of b) ≡ None → find (bs ++ (b ∷ [])) n ≡ cond (same (name_of b) n) (Some b) (find bs n)
 find_push [] b n e = refl
 find_push (x ∷ bs) b n e = elim (cases_Bool (same (name_of x) (name_of b))) [
-  | inl t ↦
-      let z : ◌≡◌ {A = Bool} true false = ap is_some (sym (cond-true (same (name_of x) (name_of b)) (Some x) (find bs (name_of b)) t) ∙ e) in
-      absurd (both_ways true z refl)
+  | inl t ↦ absurd (none-some x (sym (rw t at e)))
   | inr f ↦
-      let e' : find bs (name_of b) ≡ None = sym (cond-false (same (name_of x) (name_of b)) (Some x) (find bs (name_of b)) f) ∙ e in
-      let ih = find_push bs b n e' in
-      elim (cases_Bool (same (name_of x) n)) [
-        | inl t ↦ elim (cases_Bool (same (name_of b) n)) [
-          | inl u ↦
-              let same_name : name_of x ≡ name_of b = same_true (name_of x) n t ∙ sym (same_true (name_of b) n u) in
-              absurd (both_ways (same (name_of x) (name_of b)) f (eq_same (name_of x) (name_of b) same_name))
-          | inr u ↦
-              cond-true (same (name_of x) n) (Some x) (find (bs ++ (b ∷ [])) n) t
-              ∙ sym (cond-false (same (name_of b) n) (Some b) (find (x ∷ bs) n) u ∙ cond-true (same (name_of x) n) (Some x) (find bs n) t)
-        ]
-        | inr t ↦
-            cond-false (same (name_of x) n) (Some x) (find (bs ++ (b ∷ [])) n) t ∙ ih
-            ∙ ap (λ y. cond (same (name_of b) n) (Some b) y) (sym (cond-false (same (name_of x) n) (Some x) (find bs n) t))
-      ]
+      let apart : same (name_of x) n ≡ true → same (name_of b) n ≡ true → ⊥ = λ t u.
+      both_ways _ f (eq_same (name_of x) (name_of b) (same_true (name_of x) n t ∙ sym (same_true (name_of b) n u))) in
+      ap (λ rest. cond (same (name_of x) n) (Some x) rest) (find_push bs b n (rw f at e)) ∙ front_apart x b n (find bs n) apart
 ]
 
 -- the parts of a block that joins
-pub joins_from : (K : Book) (b : Block) → in_order b ≡ true → K (name_of b) ≡ None → named_held K b ≡ true → joins K b ≡ true
-joins_from K b g e f =
-    and_from (in_order b) (not (is_some (K (name_of b))) && named_held K b) g
-    (and_from (not (is_some (K (name_of b)))) (named_held K b) (ap (λ o. not (is_some o)) e) f)
-
 pub joins_order : (K : Book) (b : Block) → joins K b ≡ true → in_order b ≡ true
 joins_order K b j = (and_parts (in_order b) (not (is_some (K (name_of b))) && named_held K b) j).0
 
@@ -79,13 +65,12 @@ sound_push bs b ok j i c e = elim (cases_order i (length bs)) [
       subst (λ l. joins (find l) c ≡ true) (sym (take-append-le i bs (b ∷ []) le)) (ok i c p)
   | inr (inr gt) ↦
       let p : slice_get (bs ++ (b ∷ [])) i ≡ None = slice_get_past (bs ++ (b ∷ [])) i (omega (arith, length_push bs b)) in
-      let z : ◌≡◌ {A = ℕ} 0 1 = cc in
-      absurd (omega arith)
+      absurd (none-some c (sym p ∙ e))
 ]
 
 -- what is found stands at a place, under the name
 pub find_some : (bs : List Block) (n : Name) (b : Block) → find bs n ≡ Some b → (i : ℕ) × (slice_get bs i ≡ Some b) × (name_of b ≡ n)
-find_some [] n b e = let z : ◌≡◌ {A = ℕ} 0 1 = cc in absurd (omega arith)
+find_some [] n b e = absurd (none-some b e)
 find_some (x ∷ bs) n b e = elim (cases_Bool (same (name_of x) n)) [
   | inl t ↦
       let p : Some x ≡ Some b = sym (cond-true (same (name_of x) n) (Some x) (find bs n) t) ∙ e in
@@ -97,7 +82,7 @@ find_some (x ∷ bs) n b e = elim (cases_Bool (same (name_of x) n)) [
 ]
 
 pub find_any : (bs : List Block) (i : ℕ) (b : Block) → slice_get bs i ≡ Some b → (c : Block) × (find bs (name_of b) ≡ Some c)
-find_any [] i b e = let z : ◌≡◌ {A = ℕ} 0 1 = cc in absurd (omega arith)
+find_any [] i b e = absurd (none-some b e)
 find_any (x ∷ bs) zero b e =
     let q : x ≡ b = cc in
     (x, cond-true (same (name_of x) (name_of b)) (Some x) (find bs (name_of b)) (eq_same (name_of x) (name_of b) (ap name_of q)))

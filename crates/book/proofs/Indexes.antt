@@ -1,17 +1,27 @@
 -- A search in a sorted index.
-use Rattle.std.proofs.Common.{◌≡◌, ℕ, zero, suc, ◌+◌, ◌-◌, ◌<◌, ◌≤◌, true, false, eqb, List, [], ◌∷◌, ◌++◌, length, get_or, Some, None, Option, sym, refl, ap, ◌∙◌, subst, inl, inr, arith}
+use Rattle.std.proofs.Common.{◌≡◌, ℕ, zero, suc, ◌+◌, ◌-◌, ◌<◌, ◌≤◌, true, false, eqb, List, [], ◌∷◌, ◌++◌, length, get_or, Some, None, Option, Result, Ok, Err, sym, refl, ap, ◌∙◌, subst, inl, inr, Less, Equal, Greater, arith}
 use Rattle.std.specs.List.{slice_get, insert}
 use Rattle.std.proofs.lemmas.List.Edits.{length-insert, get_or-insert_below, get_or-insert_at, get_or-insert_above}
 use Rattle.std.proofs.lemmas.List.{length_push}
-use Rattle.std.proofs.lemmas.Bool.{cases_eq, cases_order, or_left, or_right, eq-eqb, cases_lt, or_cases, eqb-true, both_ways, not_from_false}
+use Rattle.std.proofs.lemmas.Option.{slice_get_within, none-some}
+use Rattle.std.proofs.lemmas.Bool.{cases_eq, cases_order, or_left, or_right, eq-eqb, cases_lt, or_cases, eqb-true, both_ways}
 use Rattle.model.specs.declared.names.Name.{Name}
 use Rattle.model.specs.declared.blocks.Block.{Block}
 use Rattle.model.specs.Blocks.{name_of}
 use Rattle.book.specs.Places.{find, Sound, Placed}
 use Rattle.model.specs.Orders.{name_before}
-use Rattle.book.specs.Index.{name_there, key, stands, Indexed}
-use Rattle.model.proofs.OrderLaws.{name_flip, name_never, name_chain}
-use Rattle.book.proofs.Nths.{nth_some, nth_below, nth_front, nth_end}
+use Rattle.book.specs.Index.{name_there, key, stands, Indexed, Sought}
+use Rattle.model.proofs.OrderLaws.{name_never, name_chain}
+use Rattle.model.specs.Names.{same}
+use Rattle.model.specs.contracts.names.NameOrd.TheImpl as name_order
+use Rattle.model.proofs.Naming.{same_true}
+use Rattle.std.specs.Option.{option_map}
+use Rattle.std.specs.Result.{result_ok}
+use Rattle.std.specs.Ordering.{ordering_index}
+use Rattle.std.specs.List.Sorted.{IsSearchInRange, IsBinarySearchResult, IsNonDecreasingBy}
+use Rattle.std.proofs.lemmas.List.Sorted.{IsNonDecreasingBy-from_default}
+use Rattle.std.proofs.lemmas.Bool.Decides.{nat_tests}
+use Rattle.book.proofs.Nths.{nth_some, nth_front, nth_end}
 use Rattle.book.proofs.Finds.{find_some}
 use Rattle.book.proofs.Lower.{find_nth}
 
@@ -22,37 +32,45 @@ stands_at (x ∷ xs) p e = elim (or_cases (eqb x p) (stands xs p) e) [
   | inr f ↦ let r = stands_at xs p f in let lt = r.1 in (suc r.0, omega arith, r.2)
 ]
 
+-- what the library's comparison of two names answers
+name_equal : (a b : Name) → name_order.ghosts.cmp a b ≡ Equal → a ≡ b
+name_equal a b e = let s : same a b ≡ true = grind (arith, nat_tests) in same_true a b s
+
+name_less : (a b : Name) → name_order.ghosts.cmp a b ≡ Less → name_before a b ≡ true
+name_less a b e = grind (arith, nat_tests)
+
+name_greater : (a b : Name) → name_order.ghosts.cmp a b ≡ Greater → name_before b a ≡ true
+name_greater a b e = grind (arith, nat_tests)
+
+index_up : (a b n : Name) → name_before a b ≡ true → ordering_index (name_order.ghosts.cmp a n) ≤ ordering_index (name_order.ghosts.cmp b n)
+index_up a b n e = grind (arith, nat_tests)
+
 module _ (bs : List Block) (ix : List ℕ) (ok : Indexed bs ix) where
-  -- names rise over any distance: d more than the next
-  far : (d j : ℕ) → (j + 1) + d < length ix → name_before (key bs ix j) (key bs ix ((j + 1) + d)) ≡ true
-  far zero j h =
-      let e : (j + 1) + 0 ≡ j + 1 = omega arith in
-      subst (λ k. name_before (key bs ix j) (key bs ix k) ≡ true) (sym e) (ok.rises j (omega arith))
-  far (suc d) j h =
-      let e : ((j + 1) + d) + 1 ≡ (j + 1) + suc d = omega arith in
-      let step = ok.rises ((j + 1) + d) (omega arith) in
-      subst (λ k. name_before (key bs ix j) (key bs ix k) ≡ true) e (name_chain (key bs ix j) (key bs ix ((j + 1) + d)) (key bs ix (((j + 1) + d) + 1)) (far d j (omega arith)) step)
-
-  pub rises_far : (j k : ℕ) → j < k → k < length ix → name_before (key bs ix j) (key bs ix k) ≡ true
-  rises_far j k lt h =
-      let e : (j + 1) + (k - (j + 1)) ≡ k = omega arith in
-      subst (λ x. name_before (key bs ix j) (key bs ix x) ≡ true) e (far (k - (j + 1)) j (omega arith))
-
-  -- all below mid are before n, if mid is
-  pub low_up : (n : Name) (mid : ℕ) → mid < length ix → name_before (key bs ix mid) n ≡ true → (j : ℕ) → j < mid + 1 → name_before (key bs ix j) n ≡ true
-  low_up n mid h b j lt = elim (cases_eq j mid) [
-    | inl e ↦ subst (λ k. name_before (key bs ix k) n ≡ true) (sym e) b
-    | inr ne ↦ name_chain (key bs ix j) (key bs ix mid) n (rises_far j mid (omega arith) h) b
-  ]
-
-  -- all from mid on are after n, if mid is neither n nor before it
-  pub high_down : (n : Name) (mid : ℕ) → mid < length ix → (key bs ix mid ≡ n → ⊥) → name_before (key bs ix mid) n ≡ false → (j : ℕ) → mid ≤ j → j < length ix → name_before n (key bs ix j) ≡ true
-  high_down n mid h ne b j le lt =
-      let at : name_before n (key bs ix mid) ≡ true = name_flip n (key bs ix mid) (λ e. ne (sym e)) ∙ not_from_false (name_before (key bs ix mid) n) b in
-      elim (cases_eq mid j) [
-        | inl e ↦ subst (λ k. name_before n (key bs ix k) ≡ true) e at
-        | inr nj ↦ name_chain n (key bs ix mid) (key bs ix j) at (rises_far mid j (omega arith) lt)
+  -- names rise over any distance
+  rises_far : (j k : ℕ) → j < k → k < length ix → name_before (key bs ix j) (key bs ix k) ≡ true
+  rises_far j zero lt h = absurd (omega arith)
+  rises_far j (suc k) lt h =
+      let next : suc k ≡ k + 1 = omega arith in
+      let step : name_before (key bs ix k) (key bs ix (suc k)) ≡ true = rw next (ok.rises k (omega arith)) in
+      elim (cases_eq j k) [
+        | inl e ↦ rw e step
+        | inr ne ↦ name_chain (key bs ix j) (key bs ix k) (key bs ix (suc k)) (rises_far j k (omega arith) (omega arith)) step
       ]
+
+  -- the comparisons of its names with n rise along the index, as a binary search asks
+  comparisons_rise : (n : Name) → IsNonDecreasingBy (λ p. ordering_index (name_order.ghosts.cmp (name_there (slice_get bs p)) n)) ix
+  comparisons_rise n = IsNonDecreasingBy-from_default (λ p. ordering_index (name_order.ghosts.cmp (name_there (slice_get bs p)) n)) ix 0 (λ i j le h.
+      elim (cases_eq i j) [
+        | inl e ↦ subst (λ k. ordering_index (name_order.ghosts.cmp (key bs ix i) n) ≤ ordering_index (name_order.ghosts.cmp (key bs ix k) n)) e (omega arith)
+        | inr ne ↦ index_up (key bs ix i) (key bs ix j) n (rises_far i j (omega arith) h)
+      ])
+
+  -- what a binary search for a name finds in the index
+  pub sought : (n : Name) (r : Result ℕ ℕ) → IsSearchInRange r (length ix) → IsBinarySearchResult (λ p. name_order.ghosts.cmp (name_there (slice_get bs p)) n) ix r → Sought bs ix n r
+  sought n (Ok k) h equal = (h, name_equal (key bs ix k) n (equal 0))
+  sought n (Err k) h parted =
+      let parts = parted (comparisons_rise n) in
+      (h, λ j lt. name_less (key bs ix j) n (parts.0 j 0 (omega arith) lt), λ j le lt. name_greater (key bs ix j) n (parts.1 j 0 le lt))
 
   pub sought_place : (sound : Sound bs) (n : Name) (k : ℕ) → k < length ix → key bs ix k ≡ n → Placed bs n (Some (get_or ix k 0))
   sought_place sound n k h e =
@@ -68,12 +86,17 @@ module _ (bs : List Block) (ix : List ℕ) (ok : Indexed bs ix) where
       go None e = e
       go (Some b) e =
           let p = find_some bs n b e in
-          let at = stands_at ix p.0 (ok.covers p.0 (nth_below bs p.0 b p.1)) in
+          let at = stands_at ix p.0 (ok.covers p.0 (slice_get_within bs p.0 b p.1)) in
           let nm : key bs ix at.0 ≡ n = ap (λ x. name_there (slice_get bs x)) at.2 ∙ ap name_there p.1 ∙ p.2 in
           elim (cases_lt at.0 k) [
             | inl lt ↦ absurd (both_ways (name_before n n) (name_never n) (subst (λ x. name_before x n ≡ true) nm (low at.0 lt)))
             | inr ge ↦ absurd (both_ways (name_before n n) (name_never n) (subst (λ x. name_before n x ≡ true) nm (high at.0 ge at.1)))
           ]
+
+  -- the place of the block that a search for its name comes to
+  pub placed : (sound : Sound bs) (n : Name) (r : Result ℕ ℕ) (o : Option ℕ) → o ≡ result_ok r → Sought bs ix n r → Placed bs n (option_map (λ k. get_or ix k 0) o)
+  placed sound n (Ok k) o e s = rw e (sought_place sound n k s.0 s.1)
+  placed sound n (Err k) o e s = rw e (sought_none n k s.1 s.2)
 
 stands_from : (xs : List ℕ) (k : ℕ) → k < length xs → stands xs (get_or xs k 0) ≡ true
 stands_from [] k h = absurd (omega arith)
@@ -146,6 +169,4 @@ pub found_none : (bs : List Block) (ix : List ℕ) → Indexed bs ix → Sound b
 found_none bs ix ok sound n k h e none =
     let p = sought_place bs ix ok sound n k h e in
     let b = nth_some bs (get_or ix k 0) p.0 in
-    let q : find bs n ≡ Some b.0 = p.1 ∙ b.1 in
-    let z : ◌≡◌ {A = ℕ} 0 1 = cc in
-    omega arith
+    none-some b.0 (sym none ∙ p.1 ∙ b.1)

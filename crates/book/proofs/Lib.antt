@@ -2,5 +2,4 @@ pub mod Nths
 pub mod Finds
 pub mod Lower
 pub mod Indexes
-pub mod Insertion
 pub mod Adding

@@ -16,6 +16,7 @@ use Rattle.model.proofs.OneListing.{side_there, held_there}
 use Rattle.book.specs.Places.{find, joins, Sound}
 use Rattle.book.proofs.Finds.{joins_order, joins_new, joins_held, order_name, order_view, find_some, find_any}
 use Rattle.book.proofs.Nths.{nth_take, nth_from_take}
+use Rattle.std.proofs.lemmas.Bool.{false≢true}
 
 module _ (bs : List Block) (ok : Sound bs) where
   -- no block after another has its name
@@ -66,7 +67,7 @@ module _ (K K' : Book) (grows : (n : Name) (b : Block) → K n ≡ Some b → K'
       and_from (is_side (K' r)) (sides_held K' rs) (ap is_side (grows r (Side s.0) s.1)) (sides_stay rs p.1)
 
   view_stays : (v : ℕ) (n : Name) (o : Option Block) → K n ≡ o → of_view v o ≡ true → of_view v (K' n) ≡ true
-  view_stays v n None e h = absurd (both_ways true (sym h) refl)
+  view_stays v n None e h = absurd (false≢true h)
   view_stays v n (Some b) e h = ap (of_view v) (grows n b e) ∙ h
 
   parent_stays : (p : Parent) → parent_held K p ≡ true → parent_held K' p ≡ true

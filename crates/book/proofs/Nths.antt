@@ -1,36 +1,23 @@
 -- Lists read at a place.
-use Rattle.std.proofs.Common.{◌≡◌, ℕ, zero, suc, ◌<◌, List, [], ◌∷◌, ◌++◌, length, get_or, take, Some, sym, refl, ap, ◌∙◌, inl, inr, arith}
+use Rattle.std.proofs.Common.{◌≡◌, ℕ, zero, suc, ◌<◌, List, [], ◌∷◌, ◌++◌, length, take, Some, sym, refl, ap, ◌∙◌, arith}
 use Rattle.std.specs.List.{slice_get}
 use Rattle.std.proofs.lemmas.List.{length-take, get_or-take}
-use Rattle.std.proofs.lemmas.Option.{slice_get-get_or, slice_get_past}
-use Rattle.std.proofs.lemmas.Bool.{cases_lt}
-
-pub nth_below : {X : Type 0} (xs : List X) (i : ℕ) (x : X) → slice_get xs i ≡ Some x → i < length xs
-nth_below xs i x e = elim (cases_lt i (length xs)) [
-  | inl lt ↦ lt
-  | inr ge ↦
-      let p = slice_get_past xs i ge in
-      let z : ◌≡◌ {A = ℕ} 0 1 = cc in
-      absurd (omega arith)
-]
+use Rattle.std.proofs.lemmas.Option.{slice_get-get_or, slice_get_within}
 
 pub nth_some : {X : Type 0} (xs : List X) (i : ℕ) → i < length xs → (x : X) × (slice_get xs i ≡ Some x)
 nth_some [] i h = absurd (omega arith)
 nth_some (x ∷ xs) zero h = (x, refl)
 nth_some (x ∷ xs) (suc i) h = nth_some xs i (omega arith)
 
-pub getD_nth : {X : Type 0} (xs : List X) (i : ℕ) (d x : X) → i < length xs → slice_get xs i ≡ Some x → get_or xs i d ≡ x
-getD_nth xs i d x h e = let q = slice_get-get_or xs i d h in cc
-
 pub nth_take : {X : Type 0} (xs : List X) (k i : ℕ) (x : X) → i < k → slice_get xs i ≡ Some x → slice_get (take k xs) i ≡ Some x
 nth_take xs k i x h e =
-    let b = nth_below xs i x e in
+    let b = slice_get_within xs i x e in
     let l : i < length (take k xs) = simp length-take (omega arith) in
     slice_get-get_or (take k xs) i x l ∙ ap (λ y. Some y) (get_or-take k xs i x h) ∙ sym (slice_get-get_or xs i x b) ∙ e
 
 pub nth_from_take : {X : Type 0} (xs : List X) (k i : ℕ) (x : X) → slice_get (take k xs) i ≡ Some x → (i < k) × (slice_get xs i ≡ Some x)
 nth_from_take xs k i x e =
-    let l = nth_below (take k xs) i x e in
+    let l = slice_get_within (take k xs) i x e in
     let m = simp length-take at l in
     let h : i < k = omega arith in
     let b : i < length xs = omega arith in

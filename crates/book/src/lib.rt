@@ -2,22 +2,22 @@
 
 #![tactic(auto)]
 
-ghost use Rattle.std.specs.Prelude.{◌≡◌, ℕ, ◌+◌, min, true, [], ◌∷◌, ◌++◌, length, None};
+ghost use Rattle.std.specs.Prelude.{◌≡◌, ◌+◌, min, true, [], ◌∷◌, ◌++◌, length, None};
 ghost use Rattle.model.specs.declared.names.Name.{Name as NameT};
-ghost use Rattle.model.specs.Questions.{Answered, first_no};
+ghost use Rattle.model.specs.Questions.{Answered};
 ghost use Rattle.model.specs.Books.{Whole, is_side, of_view, parent_held, in_order, add_questions, AddDone};
 ghost use Rattle.book.specs.Places.{joins};
 ghost use Rattle.book.specs.Meaning.{blocks_of, index_of, book_of, count, bound, has_place, Judged, added};
 
 pub mod kept;
-mod rows;
 pub mod shelf;
 
 pub use kept::Book;
 use model::{Added, Block, Name, Parent, Refusal};
-use rows::Rows;
+use places::Bounded;
 use shelf::Shelf;
 
+// That the bound stays is said at each change, as of a bounded list: a ghost field sees one value and cannot speak of the one before.
 impl<'a> Book<'a> {
     /// An empty book over these places: for each block one of `blocks`, and one of `index`, which finds it by name.
     pub fn over(blocks: &'a mut [Block], index: &'a mut [u16]) -> Book<'a>
@@ -26,11 +26,8 @@ impl<'a> Book<'a> {
         ensures bound { bound result ≡ min 4096 (min (length blocks.old) (length index.old)) }
     {
         Book {
-            rows: Rows {
-                blocks,
-                index,
-                len: 0,
-            },
+            blocks: Bounded::over(blocks),
+            index: Bounded::over(index),
         }
     }
 
@@ -41,8 +38,8 @@ impl<'a> Book<'a> {
         ensures whole { Whole (book_of self.now) }
     {
         Shelf {
-            blocks: &self.rows.blocks[..self.rows.len],
-            index: &self.rows.index[..self.rows.len],
+            blocks: self.blocks.as_slice(),
+            index: self.index.as_slice(),
         }
     }
 
@@ -50,16 +47,14 @@ impl<'a> Book<'a> {
     pub fn len(&self) -> usize
         ensures { result ≡ count self.now }
     {
-        self.shelf().len()
+        self.blocks.len()
     }
 
     /// Whether there is a place for one more block.
     pub fn has_place(&self) -> bool
         ensures { result ≡ has_place self.now }
     {
-        self.rows.len < 4096
-            && self.rows.len < self.rows.blocks.len()
-            && self.rows.len < self.rows.index.len()
+        self.blocks.has_room(1) && self.index.has_room(1)
     }
 
     /// The block of that name, if it is held.
@@ -89,6 +84,7 @@ impl<'a> Book<'a> {
     {
         self.shelf().holds_parent(parent)
     }
+
     // The answer to a block.
     fn judge(&self, block: Block) -> Result<Added, Refusal>
         ensures { Judged (book_of self.now) (has_place self.now) block result }
@@ -100,20 +96,10 @@ impl<'a> Book<'a> {
             return Err(Refusal::NotHeld);
         }
         match self.find(block.name()) {
-            Some(held) => {
-                if held.same(block) {
-                    Ok(Added::Held)
-                } else {
-                    Err(Refusal::NameTaken)
-                }
-            }
-            None => {
-                if self.has_place() {
-                    Ok(Added::New)
-                } else {
-                    Err(Refusal::BookFull)
-                }
-            }
+            Some(held) if held == block => Ok(Added::Held),
+            Some(_) => Err(Refusal::NameTaken),
+            None if self.has_place() => Ok(Added::New),
+            None => Err(Refusal::BookFull),
         }
     }
 
@@ -125,7 +111,9 @@ impl<'a> Book<'a> {
         ensures bound { bound self.new ≡ bound self.old }
     {
         if let Err(k) = self.shelf().seek(block.name()) {
-            self.rows.insert(k, block);
+            let place = self.len() as u16;
+            self.index.insert(k, place);
+            self.blocks.put(block);
         }
     }
 
@@ -138,7 +126,7 @@ impl<'a> Book<'a> {
         ensures bound { bound self.new ≡ bound self.old }
     {
         let answer = self.judge(block)?;
-        if let Added::New = answer {
+        if answer == Added::New {
             self.take_up(block);
         }
         Ok(answer)
@@ -150,9 +138,9 @@ fn in_order(block: Block) -> bool
     ensures { result ≡ in_order block }
 {
     match block {
-        Block::Side(side) => !side.name.is(Name::GENESIS),
+        Block::Side(side) => side.name != Name::GENESIS,
         Block::Backbone(backbone) => {
-            !backbone.name.is(Name::GENESIS) && backbone.parent.view < backbone.view
+            backbone.name != Name::GENESIS && backbone.parent.view < backbone.view
         }
     }
 }

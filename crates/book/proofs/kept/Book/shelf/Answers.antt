@@ -1,8 +1,6 @@
-use Rattle.std.proofs.Common.{take, refl}
+use Rattle.places.specs.Held.{held}
 use Rattle.book.proofs.Lower.{book_whole}
 use Rattle.book.proofs.kept.Book.shelf.Goals as goal
 
-pub returns : goal.returns
-returns c =
-    let b = c.args.self.now in
-    record { blocks = refl; index = refl; whole = book_whole (take b.rows.len b.rows.blocks.now) b.sound }
+pub returns-clause-whole : goal.returns-clause-whole
+returns-clause-whole c = book_whole (held c.args.self.now.blocks) c.args.self.now.sound

@@ -1,17 +1,11 @@
-use Rattle.book.specs.Index.{Indexed}
-use Rattle.book.proofs.Indexes.{sought_place, sought_none}
+use Rattle.std.proofs.Common.{Some, None}
+use Rattle.book.proofs.Indexes.{placed}
 use Rattle.book.proofs.shelf.Shelf.place_of.Goals as goal
 
-pub returns-in-Ok : goal.returns-in-Ok
-returns-in-Ok c =
-    let s = c.args.self in
-    let ok : Indexed s.blocks.now s.index.now = record { ranged = s.ranged; rises = s.rises; covers = s.covers } in
-    let h = c.in-Ok.ensures in
-    sought_place s.blocks.now s.index.now ok s.sound c.args.name c.in-Ok.k h.0 h.1
+pub returns-in_err-k : goal.returns-in_err-k
+returns-in_err-k c =
+    rw c.from_residual.ensures (placed c.args.self.blocks.now c.args.self.index.now c.args.self.indexed c.args.self.sound c.args.name c.seek.result None c.in_err-k.ensures.value c.seek.ensures)
 
-pub returns-in-Err : goal.returns-in-Err
-returns-in-Err c =
-    let s = c.args.self in
-    let ok : Indexed s.blocks.now s.index.now = record { ranged = s.ranged; rises = s.rises; covers = s.covers } in
-    let h = c.in-Err.ensures in
-    sought_none s.blocks.now s.index.now ok c.args.name _ h.1 h.2
+pub returns : goal.returns
+returns c =
+    rw c.from.ensures (placed c.args.self.blocks.now c.args.self.index.now c.args.self.indexed c.args.self.sound c.args.name c.seek.result (Some c.in_ok-k.k) c.in_ok-k.ensures.value c.seek.ensures)
