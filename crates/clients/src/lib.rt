@@ -2,7 +2,6 @@
 
 #![tactic(auto)]
 
-ghost use Rattle.std.specs.Prelude.{◌≡◌};
 ghost use Rattle.clients.specs.Offers.{TakesOffer};
 
 use model::{Offer, OfferClaim, Refusal};

@@ -1,39 +1,86 @@
 -- Each body is the words that its numbers were read from.
-use Rattle.std.proofs.Common.{◌≡◌, ℕ, ◌-◌, ◌≤◌, true, List, [], ◌∷◌, ◌++◌, length, get_or, take, drop, arith, rules}
-use Rattle.std.proofs.lemmas.List.{drop_all}
+use Rattle.std.proofs.Common.{◌≡◌, ℕ, ◌-◌, ◌≤◌, true, List, [], ◌∷◌, ◌++◌, length, get_or, take, drop, ◌⊎◌, inl, inr, sym, ap, ◌∙◌, subst, arith, rules}
+use Rattle.std.proofs.lemmas.List.{drop_all, take_rest}
 use Rattle.model.specs.declared.names.Name.{Name}
-use Rattle.words.specs.Layouts.{kinds_of}
-use Rattle.words.specs.Words.{value, right_kinds, word, name_words, names_words, voices_words}
-use Rattle.words.specs.declared.layouts.Layout.TheVariants.{Bind, Release, Backbone, Offer, Voices, Claim}
-use Rattle.words.proofs.Fronts.{word_at, firsts, all_in_front}
+use Rattle.model.specs.declared.blocks.Entry.TheVariants.{Bind as Binds, Release as Releases}
+use Rattle.words.specs.Layouts.{counts, kinds_of, IsSideLayout}
+use Rattle.words.specs.Messages.{HoldsEntry}
+use Rattle.words.specs.Words.{kind, value, small, right_kinds, word, name_words, names_words, voices_words}
+use Rattle.words.specs.declared.layouts.Layout.{Layout}
+use Rattle.words.specs.declared.layouts.Layout.TheVariants.{Bind, Release, Backbone, Offer, Voices, Certificate, Claim}
+use Rattle.words.proofs.Fronts.{kind_at, word_at, word_again, firsts, firsts_from, kinds_of_rest, all_in_front}
 
 -- the words behind the first n
 abbrev pub rest : ℕ → List ℕ → List ℕ
 rest n ws = take (length ws - n) (drop n ws)
 
-pub bind_body :
-    (ws : List ℕ) (n : Name) (a s c f : ℕ) (ns : List Name) → right_kinds (kinds_of Bind) ws ≡ true → 8 ≤ length ws
-    → name_words n ≡ firsts 0 4 ws → a ≡ value (get_or ws 4 0) → s ≡ value (get_or ws 5 0) → c ≡ value (get_or ws 6 0) → f ≡ value (get_or ws 7 0)
-    → names_words ns ≡ rest 8 ws → name_words n ++ word 4 a ∷ word 7 s ∷ word 8 c ∷ word 9 f ∷ names_words ns ≡ ws
-bind_body ws n a s c f ns r l en ea es ec ef er =
-    let w = word_at (kinds_of Bind) ws in
-    let wa = w 4 a r (omega arith) ea in
-    let w5 = w 5 s r (omega arith) es in
-    let wc = w 6 c r (omega arith) ec in
-    let wf = w 7 f r (omega arith) ef in
-    let e = all_in_front 8 ws l in
-    cc
+-- the words of a layout, as many as it takes and of its kinds
+pub record LaidAs (l : Layout) (ws : List ℕ) : Type 0 where
+  pub counted : counts l (length ws) ≡ true
+  pub judged : right_kinds (kinds_of l) ws ≡ true
 
-pub release_body :
-    (ws : List ℕ) (n : Name) (a s f : ℕ) (ns : List Name) → right_kinds (kinds_of Release) ws ≡ true → 7 ≤ length ws
-    → name_words n ≡ firsts 0 4 ws → a ≡ value (get_or ws 4 0) → s ≡ value (get_or ws 5 0) → f ≡ value (get_or ws 6 0)
-    → names_words ns ≡ rest 7 ws → name_words n ++ word 4 a ∷ word 7 s ∷ word 9 f ∷ names_words ns ≡ ws
-release_body ws n a s f ns r l en ea es ef er =
+pub laid_as : (l k : Layout) (ws : List ℕ) → l ≡ k → counts l (length ws) ≡ true → right_kinds (kinds_of l) ws ≡ true → LaidAs k ws
+laid_as l k ws e c j = subst (λ (x : Layout). LaidAs x ws) e (record { counted = c; judged = j })
+
+-- voices and certificates lie alike
+pub laid_as_voices : (l : Layout) (ws : List ℕ) → (l ≡ Voices) ⊎ (l ≡ Certificate) → counts l (length ws) ≡ true → right_kinds (kinds_of l) ws ≡ true → LaidAs Voices ws
+laid_as_voices l ws (inl e) c j = laid_as l Voices ws e c j
+laid_as_voices l ws (inr e) c j = let b = laid_as l Certificate ws e c j in record { counted = b.counted; judged = b.judged }
+
+pub bind_entry :
+    (l : Layout) (ws : List ℕ) (s c f : ℕ) → l ≡ Bind → counts l (length ws) ≡ true → right_kinds (kinds_of l) ws ≡ true → s ≡ value (get_or ws 5 0) → c ≡ value (get_or ws 6 0) → f ≡ value (get_or ws 7 0)
+    → small s ≡ true → small c ≡ true → small f ≡ true → HoldsEntry l (Binds s c f) (rest 8 ws) ws
+bind_entry l ws s c f is counted judged es ec ef hs hc hf =
+    let b = laid_as l Bind ws is counted judged in
+    let h : 8 ≤ length ws = search (rules, b.counted) in
+    let w = word_at (kinds_of Bind) ws in
+    let w5 = w 5 s b.judged (omega arith) es in
+    let wc = w 6 c b.judged (omega arith) ec in
+    let wf = w 7 f b.judged (omega arith) ef in
+    let e = firsts_from 3 5 ws (omega arith) in
+    let r = take_rest ws 8 in
+    record { layout = sym is; whole = search rules; same = cc; few = search (rules, b.counted); fours = search (rules, b.counted); kinds = kinds_of_rest 8 (kinds_of Bind) ws b.judged }
+
+pub release_entry :
+    (l : Layout) (ws : List ℕ) (s f : ℕ) → l ≡ Release → counts l (length ws) ≡ true → right_kinds (kinds_of l) ws ≡ true → s ≡ value (get_or ws 5 0) → f ≡ value (get_or ws 6 0)
+    → small s ≡ true → small f ≡ true → HoldsEntry l (Releases s f) (rest 7 ws) ws
+release_entry l ws s f is counted judged es ef hs hf =
+    let b = laid_as l Release ws is counted judged in
+    let h : 7 ≤ length ws = search (rules, b.counted) in
     let w = word_at (kinds_of Release) ws in
-    let wa = w 4 a r (omega arith) ea in
-    let w5 = w 5 s r (omega arith) es in
-    let wf = w 6 f r (omega arith) ef in
-    let e = all_in_front 7 ws l in
+    let w5 = w 5 s b.judged (omega arith) es in
+    let wf = w 6 f b.judged (omega arith) ef in
+    let e = firsts_from 2 5 ws (omega arith) in
+    let r = take_rest ws 7 in
+    record { layout = sym is; whole = search rules; same = cc; few = search (rules, b.counted); fours = search (rules, b.counted); kinds = kinds_of_rest 7 (kinds_of Release) ws b.judged }
+
+-- the first five words of a side block are parts of its name and its author
+pub record SideFront (ws : List ℕ) : Type 0 where
+  pub long : 5 ≤ length ws
+  pub a : kind (get_or ws 0 0) ≡ 3
+  pub b : kind (get_or ws 1 0) ≡ 3
+  pub c : kind (get_or ws 2 0) ≡ 3
+  pub d : kind (get_or ws 3 0) ≡ 3
+  pub author : kind (get_or ws 4 0) ≡ 4
+
+pub side_front : (l : Layout) (ws : List ℕ) → IsSideLayout l → counts l (length ws) ≡ true → right_kinds (kinds_of l) ws ≡ true → SideFront ws
+side_front l ws (inl e) c j =
+    let b = laid_as l Bind ws e c j in
+    let h : 5 ≤ length ws = search (rules, b.counted) in
+    let k = kind_at (kinds_of Bind) ws in
+    record { long = h; a = k 0 b.judged (omega arith); b = k 1 b.judged (omega arith); c = k 2 b.judged (omega arith); d = k 3 b.judged (omega arith); author = k 4 b.judged (omega arith) }
+side_front l ws (inr e) c j =
+    let b = laid_as l Release ws e c j in
+    let h : 5 ≤ length ws = search (rules, b.counted) in
+    let k = kind_at (kinds_of Release) ws in
+    record { long = h; a = k 0 b.judged (omega arith); b = k 1 b.judged (omega arith); c = k 2 b.judged (omega arith); d = k 3 b.judged (omega arith); author = k 4 b.judged (omega arith) }
+
+pub side_body :
+    (ws : List ℕ) (n : Name) (a : ℕ) (es : List ℕ) → SideFront ws → name_words n ≡ firsts 0 4 ws → a ≡ value (get_or ws 4 0) → es ≡ drop 5 ws
+    → name_words n ++ word 4 a ∷ es ≡ ws
+side_body ws n a es f en ea ee =
+    let w : word 4 a ≡ get_or ws 4 0 = ap (λ v. word 4 v) ea ∙ word_again (get_or ws 4 0) 4 f.author in
+    let e = firsts_from 5 0 ws f.long in
     cc
 
 pub backbone_body :

@@ -1,11 +1,13 @@
 -- The words of claims, one claim at a time.
-use Rattle.std.proofs.Common.{◌≡◌, ℕ, zero, suc, ◌+◌, ◌*◌, ◌<◌, ◌≤◌, Bool, true, ◌&&◌, List, [], ◌∷◌, ◌++◌, length, get_or, take, drop, set, sym, refl, ap, ◌∙◌, arith, rules}
-use Rattle.std.proofs.lemmas.List.{at_drop_more, at_drop_all, append_assoc, append-nil, take_more_set, drop-set-lt, drop-drop, drop_all}
+use Rattle.std.proofs.Common.{◌≡◌, ℕ, ◌+◌, ◌*◌, ◌%◌, ◌<◌, ◌≤◌, Bool, true, ◌&&◌, List, [], ◌∷◌, ◌++◌, length, length-append, get_or, take, drop, set, sym, refl, ap, ◌∙◌, arith, rules}
+use Rattle.std.specs.List.{list_all}
+use Rattle.std.proofs.lemmas.List.{at_drop_more, at_drop_all, append_assoc, take_more_set, drop-set-lt, drop-drop}
 use Rattle.model.specs.declared.statements.OfferClaim.{OfferClaim}
-use Rattle.words.specs.Claims.{claims_kinds, claims_words, small_claims, are_claims, ClaimsInFront}
+use Rattle.words.specs.Claims.{claims_kinds, claims_words, small_claims, are_claims}
 use Rattle.words.specs.Places.{placed}
-use Rattle.words.specs.Words.{value, word, small, right_kinds}
-use Rattle.words.proofs.Fronts.{firsts, firsts_from, word_at}
+use Rattle.words.specs.Words.{kind, value, word, small, right_kinds}
+use Rattle.words.proofs.Fronts.{word_again}
+use Rattle.words.proofs.RightKinds.{ClaimsLeft, claim_more, claims_next}
 use Rattle.words.proofs.Placing.{placed_more, placed_none}
 
 -- a claim of zeros, where a place past the end is read
@@ -34,11 +36,13 @@ words_none : claims_words [] ≡ []
 unfolding claims_words
 words_none = refl
 
+pub all_small : (cs : List OfferClaim) → list_all (λ c. small c.station && small c.height) cs ≡ small_claims cs
+unfolding small_claims
+all_small [] = refl
+all_small (c ∷ cs) = let e = all_small cs in search rules
+
 pub small_more : (cs : List OfferClaim) (i : ℕ) → i < length cs → small_claims (drop i cs) ≡ (small_claim (get_or cs i zeros) && small_claims (drop (i + 1) cs))
 small_more cs i h = at_drop_more small_claims cs i zeros h ∙ small_one (get_or cs i zeros) (drop (i + 1) cs)
-
-pub small_all : (cs : List OfferClaim) (i : ℕ) → length cs ≤ i → small_claims (drop i cs) ≡ true
-small_all cs i h = at_drop_all small_claims cs i h ∙ small_none
 
 pub length_of_claims : (cs : List OfferClaim) → length (claims_words cs) ≡ 2 * length cs
 length_of_claims [] = ap length words_none
@@ -66,61 +70,62 @@ unfolding small_claims
 small_push [] c h k = search rules
 small_push (d ∷ cs) c h k = let e = small_push cs c (search rules) k in search rules
 
--- a claim's kinds, wherever it stands
-kinds_in_turn : (n i : ℕ) → i < n → (get_or (claims_kinds n) (2 * i) 0 ≡ 4) × (get_or (claims_kinds n) (2 * i + 1) 0 ≡ 2)
-kinds_in_turn zero i h = absurd (omega arith)
-kinds_in_turn (suc n) zero h = (refl, refl)
-kinds_in_turn (suc n) (suc i) h =
-    let k = kinds_in_turn n i (omega arith) in
-    let a : 2 * suc i ≡ suc (suc (2 * i)) = omega arith in
-    let b : 2 * suc i + 1 ≡ suc (suc (2 * i + 1)) = omega arith in
-    (ap (λ j. get_or (claims_kinds (suc n)) j 0) a ∙ k.0, ap (λ j. get_or (claims_kinds (suc n)) j 0) b ∙ k.1)
-
 -- claims read so far, with the words left
-pub record ReadSoFar (ws : List ℕ) (old new : List OfferClaim) (i : ℕ) : Type 0 where
-  pub words : claims_words (take i new) ++ drop (2 * i) ws ≡ ws
+pub record ReadSoFar (ws left : List ℕ) (old new : List OfferClaim) (i : ℕ) : Type 0 where
+  pub words : claims_words (take i new) ++ left ≡ ws
   pub whole : small_claims (take i new) ≡ true
   pub behind : drop i new ≡ drop i old
+  pub kinds : ClaimsLeft ws left
+  pub count : 2 * i + length left ≡ length ws
 
-pub read_none : (ws : List ℕ) (old : List OfferClaim) → ReadSoFar ws old old 0
-read_none ws old = record { words = ap (λ xs. xs ++ ws) words_none; whole = small_none; behind = refl }
+pub read_none : (ws left : List ℕ) (old : List OfferClaim) (i : ℕ) → are_claims ws ≡ true → left ≡ ws → i ≡ 0 → ReadSoFar ws left old old i
+read_none ws left old i a e z =
+    let few : length ws ≤ 56 = search rules in
+    let even : length ws % 2 ≡ 0 = search rules in
+    let t : take i old ≡ [] = ap (λ k. take k old) z in
+    let l = ap length e in
+    record {
+      words = ap (λ cs. claims_words cs ++ left) t ∙ ap (λ xs. xs ++ left) words_none ∙ e;
+      whole = ap small_claims t ∙ small_none;
+      behind = refl;
+      kinds = record { same = ap (λ xs. right_kinds (claims_kinds 28) xs) e; few = omega (arith, l, few); even = ap (λ n. n % 2) l ∙ even };
+      count = omega (arith, l, z);
+    }
+
+-- the two words of a claim are those of its numbers
+two_words :
+    (pair : List ℕ) (c : OfferClaim) → length pair ≡ 2 → kind (get_or pair 0 0) ≡ 4 → kind (get_or pair 1 0) ≡ 2
+    → c.station ≡ value (get_or pair 0 0) → c.height ≡ value (get_or pair 1 0) → pair ≡ claim_words c
+two_words [] c l ka kb ea eb = absurd (omega arith)
+two_words (a ∷ []) c l ka kb ea eb = absurd (omega arith)
+two_words (a ∷ b ∷ []) c l ka kb ea eb =
+    ap (λ (x : ℕ). x ∷ b ∷ []) (sym (word_again a 4 ka) ∙ ap (λ v. word 4 v) (sym ea))
+    ∙ ap (λ (x : ℕ). word 4 c.station ∷ x ∷ []) (sym (word_again b 2 kb) ∙ ap (λ v. word 2 v) (sym eb))
+two_words (a ∷ b ∷ d ∷ pair) c l ka kb ea eb = absurd (omega arith)
 
 -- one claim more, read from its two words
 pub read_more :
-    (ws : List ℕ) (old new : List OfferClaim) (i : ℕ) (c : OfferClaim)
-    → are_claims ws ≡ true → 2 * i + 1 < length ws → i < length new → ReadSoFar ws old new i
-    → c.station ≡ value (get_or ws (2 * i) 0) → c.height ≡ value (get_or ws (2 * i + 1) 0) → small_claim c ≡ true
-    → ReadSoFar ws old (set new i c) (i + 1)
-read_more ws old new i c a h l r es eh s =
+    (ws left pair rest : List ℕ) (old new : List OfferClaim) (i j : ℕ) (c : OfferClaim)
+    → are_claims ws ≡ true → ReadSoFar ws left old new i → left ≡ pair ++ rest → length pair ≡ 2 → i < length new → j ≡ i + 1
+    → c.station ≡ value (get_or pair 0 0) → c.height ≡ value (get_or pair 1 0) → small_claim c ≡ true
+    → ReadSoFar ws rest old (set new i c) j
+read_more ws left pair rest old new i j c a r e l h ej es eh s =
     let k : right_kinds (claims_kinds 28) ws ≡ true = search rules in
-    let few : length ws ≤ 56 = search rules in
-    let t = kinds_in_turn 28 i (omega arith) in
-    let w = word_at (claims_kinds 28) ws in
-    let a = ap (λ x. word x c.station) (sym t.0) ∙ w (2 * i) c.station k (omega arith) es in
-    let b = ap (λ x. word x c.height) (sym t.1) ∙ w (2 * i + 1) c.height k (omega arith) eh in
-    let d : drop (2 * i) ws ≡ claim_words c ++ drop (2 * (i + 1)) ws =
-    let j : 2 * i + 2 ≡ 2 * (i + 1) = omega arith in
-    let f = firsts_from 2 (2 * i) ws (omega arith) in
-    let g : firsts (2 * i) 2 ws ≡ claim_words c = cc in
-    f ∙ ap (λ xs. xs ++ drop (2 * i + 2) ws) g ∙ ap (λ m. claim_words c ++ drop m ws) j in
-    let p : take (i + 1) (set new i c) ≡ take i new ++ c ∷ [] = take_more_set new i c l in
+    let m : right_kinds (claims_kinds 28) left ≡ true = r.kinds.same ∙ k in
+    let q = sym (claim_more pair rest left e l r.kinds.few) ∙ m in
+    let ka : kind (get_or pair 0 0) ≡ 4 = search rules in
+    let kb : kind (get_or pair 1 0) ≡ 2 = search rules in
+    let w = two_words pair c l ka kb es eh in
+    let p : take j (set new i c) ≡ take i new ++ c ∷ [] = ap (λ n. take n (set new i c)) ej ∙ take_more_set new i c h in
     record {
-      words = ap (λ cs. claims_words cs ++ drop (2 * (i + 1)) ws) p ∙ ap (λ xs. xs ++ drop (2 * (i + 1)) ws) (words_push (take i new) c)
-          ∙ append_assoc (claims_words (take i new)) (claim_words c) (drop (2 * (i + 1)) ws)
-          ∙ ap (λ xs. claims_words (take i new) ++ xs) (sym d) ∙ r.words;
+      words = ap (λ cs. claims_words cs ++ rest) p ∙ ap (λ xs. xs ++ rest) (words_push (take i new) c)
+          ∙ append_assoc (claims_words (take i new)) (claim_words c) rest
+          ∙ ap (λ xs. claims_words (take i new) ++ (xs ++ rest)) (sym w) ∙ ap (λ xs. claims_words (take i new) ++ xs) (sym e) ∙ r.words;
       whole = ap small_claims p ∙ small_push (take i new) c r.whole s;
-      behind = drop-set-lt (i + 1) new i c (omega arith) ∙ drop_more new old i r.behind;
+      behind = ap (λ n. drop n (set new i c)) ej ∙ drop-set-lt (i + 1) new i c (omega arith) ∙ drop_more new old i r.behind ∙ ap (λ n. drop n old) (sym ej);
+      kinds = claims_next ws left pair rest r.kinds e l (search rules);
+      count = omega (arith, r.count, ap length e, length-append pair rest, ej);
     }
   where
     drop_more : (xs ys : List OfferClaim) (n : ℕ) → drop n xs ≡ drop n ys → drop (n + 1) xs ≡ drop (n + 1) ys
     drop_more xs ys n e = sym (drop-drop 1 n xs) ∙ ap (λ zs. drop 1 zs) e ∙ drop-drop 1 n ys
-
-pub read_all : (ws : List ℕ) (old new : List OfferClaim) (i : ℕ) → 2 * i ≡ length ws → ReadSoFar ws old new i → ClaimsInFront ws old new i
-read_all ws old new i e r =
-    let d : drop (2 * i) ws ≡ [] = drop_all (2 * i) ws (omega arith) in
-    record {
-      count = e;
-      words = sym (append-nil (claims_words (take i new))) ∙ ap (λ xs. claims_words (take i new) ++ xs) (sym d) ∙ r.words;
-      whole = r.whole;
-      behind = r.behind;
-    }

@@ -8,6 +8,7 @@ use Rattle.words.specs.Words.{word, right_kinds}
 use Rattle.words.proofs.ClaimWords.{length_of_claims}
 use Rattle.words.proofs.RightKinds.{no_words}
 use Rattle.words.proofs.Wholes.{kind_of_word}
+use Rattle.model.proofs.Clash.{clash}
 
 -- claims that fit have claim words
 kinds_of_claims : (m : ℕ) (cs : List OfferClaim) → length cs ≤ m → small_claims cs ≡ true → right_kinds (claims_kinds m) (claims_words cs) ≡ true
@@ -28,8 +29,8 @@ are_claims_words cs h s =
 one_row : (cs ds : List OfferClaim) → claims_words cs ≡ claims_words ds → cs ≡ ds
 unfolding claims_words
 one_row [] [] e = refl
-one_row [] (d ∷ ds) e = let z : ◌≡◌ {A = ℕ} 0 1 = cc in absurd (omega arith)
-one_row (c ∷ cs) [] e = let z : ◌≡◌ {A = ℕ} 0 1 = cc in absurd (omega arith)
+one_row [] (d ∷ ds) e = clash cc
+one_row (c ∷ cs) [] e = clash cc
 one_row (c ∷ cs) (d ∷ ds) e =
     let a : word 4 c.station ≡ word 4 d.station = cc in
     let b : word 2 c.height ≡ word 2 d.height = cc in

@@ -30,7 +30,7 @@ kinds_behind (suc n) ks [] r = refl
 kinds_behind (suc n) [] (w ∷ ws) r = search rules
 kinds_behind (suc n) (k ∷ ks) (w ∷ ws) r = kinds_behind n ks ws (search rules)
 
-word_again : (w k : ℕ) → kind w ≡ k → word k (value w) ≡ w
+pub word_again : (w k : ℕ) → kind w ≡ k → word k (value w) ≡ w
 word_again w k h = omega arith
 
 -- the word in each place is made of the kind asked for and its value

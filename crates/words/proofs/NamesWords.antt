@@ -1,10 +1,12 @@
 -- The words of a row of names, one name at a time.
-use Rattle.std.proofs.Common.{◌≡◌, ℕ, ◌+◌, ◌-◌, ◌*◌, ◌%◌, ◌<◌, ◌≤◌, true, List, [], ◌∷◌, ◌++◌, length, get_or, take, drop, sym, refl, ap, ◌∙◌, arith, rules}
-use Rattle.std.proofs.lemmas.List.{take_rest, append_assoc, append-nil, length_push, nil_from_length}
+use Rattle.std.proofs.Common.{◌≡◌, ℕ, ◌+◌, ◌-◌, ◌*◌, ◌<◌, ◌≤◌, true, List, [], ◌∷◌, ◌++◌, length, get_or, take, drop, sym, refl, ap, ◌∙◌, arith, rules}
+use Rattle.std.proofs.lemmas.List.{take_rest, append_assoc, append-nil, length_push}
 use Rattle.model.specs.declared.names.Name.{Name}
 use Rattle.words.specs.Layouts.{references_kinds}
 use Rattle.words.specs.Words.{kind, right_kinds, small_name, small_names, name_words, names_words}
 use Rattle.words.proofs.SmallNames.{small_more}
+use Rattle.words.specs.Places.{placed}
+use Rattle.words.proofs.Placing.{placed_none, placed_more, length_placed}
 use Rattle.words.proofs.Fronts.{kind_at, kinds_behind, firsts, firsts_from}
 
 pub names_words_none : names_words [] ≡ []
@@ -78,20 +80,46 @@ found_more ws left ns more n f h e s m =
       count = let q : length more ≡ length ns + 1 = ap length m ∙ length_push ns n in omega (arith, ap length w.front, f.count);
     }
 
-pub found_all : (ws left : List ℕ) (ns : List Name) → Found ws ns left → length left < 4 → length ws % 4 ≡ 0 → names_words ns ≡ ws
-found_all ws left ns f h z =
-    let e : left ≡ [] = nil_from_length left (omega (arith, f.count)) in
-    sym (append-nil (names_words ns)) ∙ ap (λ xs. names_words ns ++ xs) (sym e) ∙ f.same
+-- names that are left to be written, n being written from a place on
+pub record NamesLeft (at : ℕ) (all : List Name) (old new : List ℕ) (n : ℕ) (left : List Name) : Type 0 where
+  pub same : placed (at + 4 * n) (names_words left) new ≡ placed at (names_words all) old
+  pub space : at + 4 * n + length (names_words left) ≤ length new
+  pub small : small_names left ≡ true
 
--- a row of names, the first of them and those behind it
-pub record FirstName (ms : List Name) (n : Name) (ns : List Name) : Type 0 where
-  pub words : names_words ms ≡ name_words n ++ names_words ns
-  pub count : length (names_words ms) ≡ 4 + length (names_words ns)
-  pub small : small_names ms ≡ true → small_name n ≡ true
-  pub behind : small_names ms ≡ true → small_names ns ≡ true
+-- the first of the names left, and its space
+pub record FirstLeft (at : ℕ) (new : List ℕ) (n : ℕ) (first : Name) (left behind : List Name) : Type 0 where
+  pub words : names_words left ≡ name_words first ++ names_words behind
+  pub space : at + 4 * n + (4 + length (names_words behind)) ≤ length new
+  pub small : small_name first ≡ true
+  pub others : small_names behind ≡ true
 
-pub first_name : (ms : List Name) (n : Name) (ns : List Name) → ms ≡ n ∷ ns → FirstName ms n ns
-first_name ms n ns e =
-    let w = ap names_words e ∙ names_words_more n ns in
-    let s = ap small_names e ∙ small_more n ns in
-    record { words = w; count = omega (arith, ap length w); small = λ h. search rules; behind = λ h. search rules }
+pub first_left :
+    (at : ℕ) (all : List Name) (old new : List ℕ) (n : ℕ) (first : Name) (left behind : List Name)
+    → NamesLeft at all old new n left → left ≡ first ∷ behind → FirstLeft at new n first left behind
+first_left at all old new n first left behind l e =
+    let w = ap names_words e ∙ names_words_more first behind in
+    let s = sym (ap small_names e ∙ small_more first behind) ∙ l.small in
+    record { words = w; space = omega (arith, l.space, ap length w); small = search rules; others = search rules }
+
+-- one name more is written
+pub left_next :
+    (at : ℕ) (all : List Name) (old new after : List ℕ) (n m i : ℕ) (first : Name) (left behind : List Name)
+    → NamesLeft at all old new n left → left ≡ first ∷ behind → i ≡ n → m ≡ n + 1 → after ≡ placed (at + 4 * i) (name_words first) new
+    → NamesLeft at all old after m behind
+left_next at all old new after n m i first left behind l e ei em ea =
+    let f = first_left at all old new n first left behind l e in
+    let g = ea ∙ ap (λ x. placed (at + 4 * x) (name_words first) new) ei in
+    let p = length_placed (at + 4 * n) (name_words first) new (omega (arith, f.space)) in
+    let k : at + 4 * m ≡ at + 4 * n + 4 = omega (arith, em) in
+    record {
+      same = ap (λ x. placed x (names_words behind) after) k ∙ ap (λ xs. placed (at + 4 * n + 4) (names_words behind) xs) g
+          ∙ sym (placed_more (at + 4 * n) (name_words first) (names_words behind) new (omega (arith, f.space)))
+          ∙ ap (λ xs. placed (at + 4 * n) xs new) (sym f.words) ∙ l.same;
+      space = omega (arith, f.space, k, ap length g, p);
+      small = f.others;
+    }
+
+pub left_none :
+    (at : ℕ) (all : List Name) (old new : List ℕ) (n : ℕ) (left : List Name) → NamesLeft at all old new n left → left ≡ [] → new ≡ placed at (names_words all) old
+left_none at all old new n left l e =
+    sym (placed_none (at + 4 * n) new) ∙ ap (λ xs. placed (at + 4 * n) xs new) (sym (ap names_words e ∙ names_words_none)) ∙ l.same

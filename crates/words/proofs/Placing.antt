@@ -1,16 +1,7 @@
 -- Words written over others: one part after the other.
-use Rattle.std.proofs.Common.{◌≡◌, ℕ, ◌+◌, ◌-◌, ◌≤◌, true, List, [], ◌++◌, length, take, drop, Ok, sym, ap, ◌∙◌, subst, arith, length-append, length-drop, rules}
-use borrow.Rule.Slice.PartMut.{put_mid}
+use Rattle.std.proofs.Common.{◌≡◌, ℕ, ◌+◌, ◌≤◌, List, [], ◌++◌, length, take, drop, sym, ap, ◌∙◌, arith, length-append, length-drop}
 use Rattle.std.proofs.lemmas.List.{take_at, drop_at, drop-drop, append_assoc, take-append-drop, length-take-le}
-use Rattle.words.specs.Messages.{Said, fits, encoded, Writes}
 use Rattle.words.specs.Places.{placed, InFront}
-
--- a copy into a part of a slice
-pub placed_put : (at : ℕ) (old ws xs : List ℕ) → xs ≡ ws → put_mid at (at + length ws - at) old xs ≡ placed at ws old
-placed_put at old ws xs e =
-    let k : at + length ws - at ≡ length ws = omega arith in
-    let d = drop-drop (length ws) at old in
-    simp (e, k, d)
 
 pub placed_none : (at : ℕ) (old : List ℕ) → placed at [] old ≡ old
 placed_none at old = let e : at + 0 ≡ at = omega arith in ap (λ k. take at old ++ drop k old) e ∙ take-append-drop at old
@@ -55,8 +46,13 @@ two_parts front rest old mid new ws n em en ew e =
           ∙ sym (placed_more 0 front rest old (omega arith)) ∙ ap (λ i. (front ++ rest) ++ drop i old) k ∙ ap (λ xs. xs ++ drop n old) (sym ew),
     )
 
--- a message that fits and has the space is accepted
-pub accepted :
-    (s t : Said) (old new : List ℕ) (n : ℕ) → fits s ≡ true → length (encoded s) ≤ length old → s ≡ t → InFront (encoded t) old new n → Writes s old new (Ok n)
-accepted s t old new n f l e w =
-    (search rules, subst (λ (x : Said). InFront (encoded x) old new n) (sym e) w)
+-- a part written behind another, and then what follows both
+pub three_parts :
+    (head part rest old mid next new ws : List ℕ) (n : ℕ) → length head ≤ length old → mid ≡ placed 0 head old → next ≡ placed (length head) part mid
+    → new ≡ placed (length head + length part) rest next → ws ≡ head ++ (part ++ rest) → n ≡ length ws → InFront ws old new n
+three_parts head part rest old mid next new ws n h em ex en ew e =
+    let l : length (head ++ part) ≡ length head + length part = length-append head part in
+    let z : 0 + length head ≡ length head = omega arith in
+    let b : next ≡ placed 0 (head ++ part) old =
+    ex ∙ ap (λ xs. placed (length head) part xs) em ∙ ap (λ i. placed i part (placed 0 head old)) (sym z) ∙ sym (placed_more 0 head part old (omega arith)) in
+    two_parts (head ++ part) rest old next new ws n b (en ∙ ap (λ i. placed i rest next) (sym l)) (ew ∙ sym (append_assoc head part rest)) e

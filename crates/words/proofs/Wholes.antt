@@ -1,14 +1,20 @@
 -- A head announces the layout of its message, and the words of a message that fits have the right kinds.
-use Rattle.std.proofs.Common.{◌≡◌, ℕ, zero, suc, ◌/◌, ◌%◌, ◌<◌, ◌≤◌, Bool, true, false, ◌&&◌, eqb, List, [], ◌∷◌, ◌++◌, length, get_or, Some, None, sym, refl, ap, ◌∙◌, subst, arith, rules}
+use Rattle.std.proofs.Common.{◌≡◌, ℕ, zero, suc, ◌/◌, ◌%◌, ◌<◌, ◌≤◌, Bool, true, false, ◌&&◌, eqb, List, [], ◌∷◌, ◌++◌, length, get_or, Some, None, Ok, Err, Result, sym, refl, ap, ◌∙◌, subst, arith, rules}
+use Rattle.std.specs.Result.{result_ok}
 use Rattle.std.proofs.lemmas.Bool.{eq-eqb}
+use Rattle.std.proofs.lemmas.Option.{none-some}
 use Rattle.model.specs.Blocks.{referred}
 use Rattle.model.specs.declared.blocks.Entry.{Entry}
 use Rattle.model.specs.declared.blocks.Entry.TheVariants.{Bind as Binds, Release as Releases}
 use Rattle.model.specs.declared.blocks.References.{References}
 use Rattle.model.specs.declared.blocks.References.TheVariants.{Empty, One, Two, Three, Four}
 use Rattle.model.specs.declared.names.Name.{Name}
-use Rattle.words.specs.Layouts.{type_of, counts, kinds_of, layout_among, layout_at, layout_behind, layouts, references_kinds}
+use Rattle.model.specs.declared.refusals.Refusal.{Refusal}
+use Rattle.words.specs.Layouts.{type_of, counts, kinds_of, layout_among, layout_at, layout_behind, layouts, references_kinds, IsAnnouncedWrongly}
 use Rattle.words.specs.Messages.{Said, side, backbone, offer, voices, certificate, claim, probe, leave, layout, entry_layout, body, fits, Lies, WordsOf}
+use Rattle.words.specs.Types.{IsTypeOf}
+use Rattle.words.specs.declared.types.MessageType.{MessageType}
+use Rattle.words.specs.declared.types.MessageType.TheVariants.{Side as OfSide, Backbone as OfBackbone, Offer as OfOffer, Voices as OfVoices, Certificate as OfCertificate, Claim as OfClaim, Probe as OfProbe, Leave as OfLeave}
 use Rattle.words.specs.Words.{kind, value, word, head, small, small_name, small_names, small_entry, name_words, names_words, entry_words, voices_words, small_voices, right_kinds}
 use Rattle.words.proofs.Bodies.{rest}
 use Rattle.words.proofs.Fronts.{all_in_front}
@@ -16,6 +22,7 @@ use Rattle.words.proofs.NamesWords.{length_of_names}
 use Rattle.words.proofs.RightKinds.{no_words}
 use Rattle.words.specs.declared.layouts.Layout.{Layout}
 use Rattle.words.specs.declared.layouts.Layout.TheVariants.{Bind, Release, Backbone, Offer, Voices, Certificate, Claim, Probe, Leave}
+use Rattle.model.proofs.Clash.{clash}
 
 -- a layout that is found has that type and takes that count
 abbrev FoundFits : List Layout → ℕ → ℕ → Layout → Type 0
@@ -30,8 +37,22 @@ found_next k ls t n l more true q e =
 found_next k ls t n l more false q e = more (search rules)
 
 found_fits : (ls : List Layout) (t n : ℕ) (l : Layout) → FoundFits ls t n l
-found_fits [] t n l e = let z : ◌≡◌ {A = ℕ} 0 1 = cc in absurd (omega arith)
+found_fits [] t n l e = clash cc
 found_fits (k ∷ ls) t n l e = found_next k ls t n l (found_fits ls t n l) (eqb t (type_of k) && counts k n) refl e
+
+-- a number that is no type's has no layout
+pub no_type : (t n : ℕ) (r : Result MessageType Refusal) → IsTypeOf t r → result_ok r ≡ None → layout_at t n ≡ None
+no_type t n (Ok m) h e = absurd (none-some m (sym e))
+no_type t n (Err x) h z =
+    let a = h.1 OfSide in
+    let b = h.1 OfBackbone in
+    let c = h.1 OfOffer in
+    let d = h.1 OfVoices in
+    let e = h.1 OfCertificate in
+    let g = h.1 OfClaim in
+    let k = h.1 OfProbe in
+    let i = h.1 OfLeave in
+    search rules
 
 -- what a head announces, it says
 pub record Announced (h n : ℕ) (l : Layout) : Type 0 where
@@ -178,17 +199,11 @@ parted ws h = all_in_front 1 ws h
 split : (s : Said) (ws : List ℕ) → 1 ≤ length ws → WordsOf s ws → Passes (get_or ws 0 0) (rest 1 ws)
 split s ws h e = passes s (get_or ws 0 0) (rest 1 ws) (subst (λ (xs : List ℕ). WordsOf s xs) (parted ws h) e)
 
-pub no_head : (ws : List ℕ) → 1 ≤ length ws → layout_behind (get_or ws 0 0) (length (rest 1 ws)) ≡ None → (s : Said) → WordsOf s ws → ⊥
-no_head ws h n s e = let p = split s ws h e in let z : ◌≡◌ {A = ℕ} 0 1 = cc (n, p.announced) in omega arith
-
-pub wrong_kinds :
-    (ws : List ℕ) (l : Layout) → 1 ≤ length ws → layout_behind (get_or ws 0 0) (length (rest 1 ws)) ≡ Some l → right_kinds (kinds_of l) (rest 1 ws) ≡ false
-    → (s : Said) → WordsOf s ws → ⊥
-wrong_kinds ws l h a k s e =
+pub wrongly : (ws : List ℕ) → 1 ≤ length ws → IsAnnouncedWrongly (get_or ws 0 0) (rest 1 ws) → (s : Said) → WordsOf s ws → ⊥
+wrongly ws h n s e =
     let p = split s ws h e in
-    let q : p.found ≡ l = cc (a, p.announced) in
-    let b : right_kinds (kinds_of l) (rest 1 ws) ≡ true = ap (λ x. right_kinds (kinds_of x) (rest 1 ws)) (sym q) ∙ p.kinds in
-    let z : ◌≡◌ {A = ℕ} 0 1 = cc in
+    let b = n p.found p.announced in
+    let z : ◌≡◌ {A = ℕ} 0 1 = cc (b, p.kinds) in
     omega arith
 
 pub whole :

@@ -1,7 +1,7 @@
 -- The layouts of messages: type, counts of words behind the head, and their kinds. Assumes nothing.
-use Rattle.std.specs.Prelude.{ℕ, ◌/◌, ◌%◌, Bool, cond, ◌&&◌, List, [], ◌∷◌, replicate, Some, None, Option, ◌==◌, nat_le}
+use Rattle.std.specs.Prelude.{◌≡◌, ℕ, ◌/◌, ◌%◌, Bool, false, cond, ◌&&◌, List, [], ◌∷◌, replicate, length, Some, None, Option, ◌⊎◌, ◌==◌, nat_le}
 use Rattle.words.specs.Claims.{claims_kinds}
-use Rattle.words.specs.Words.{kind, value}
+use Rattle.words.specs.Words.{kind, value, right_kinds}
 use Rattle.words.specs.declared.layouts.Layout.{Layout}
 use Rattle.words.specs.declared.layouts.Layout.TheVariants.{Bind, Release, Backbone, Offer, Voices, Certificate, Claim, Probe, Leave}
 
@@ -28,6 +28,10 @@ counts Claim n = n == 3
 counts Probe n = n == 0
 counts Leave n = n == 0
 
+-- the layouts of side blocks
+abbrev pub IsSideLayout : Layout → Type 0
+IsSideLayout l = (l ≡ Bind) ⊎ (l ≡ Release)
+
 -- the kinds of four references' words
 abbrev pub references_kinds : List ℕ
 references_kinds = replicate 16 3
@@ -44,6 +48,18 @@ kinds_of Claim = 4 ∷ 2 ∷ 2 ∷ []
 kinds_of Probe = []
 kinds_of Leave = []
 
+-- the kinds of the words behind those that each message of the layout has: of references, or of claims
+abbrev pub tail_kinds : Layout → List ℕ
+tail_kinds Bind = references_kinds
+tail_kinds Release = references_kinds
+tail_kinds Backbone = references_kinds
+tail_kinds Offer = claims_kinds 28
+tail_kinds Voices = []
+tail_kinds Certificate = []
+tail_kinds Claim = []
+tail_kinds Probe = []
+tail_kinds Leave = []
+
 abbrev pub layouts : List Layout
 layouts = Bind ∷ Release ∷ Backbone ∷ Offer ∷ Voices ∷ Certificate ∷ Claim ∷ Probe ∷ Leave ∷ []
 
@@ -58,3 +74,7 @@ layout_at t n = layout_among layouts t n
 -- the layout that a head word announces over a count of words behind it
 abbrev pub layout_behind : ℕ → ℕ → Option Layout
 layout_behind h n = cond (kind h == 1 && h % 1048576 == n) (layout_at (value h / 1048576) n) None
+
+-- these words have not the kinds of the layout that the head word announces over so many, if it announces one
+abbrev pub IsAnnouncedWrongly : ℕ → List ℕ → Type 0
+IsAnnouncedWrongly h ws = (l : Layout) → layout_behind h (length ws) ≡ Some l → right_kinds (kinds_of l) ws ≡ false

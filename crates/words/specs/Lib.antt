@@ -1,4 +1,6 @@
 pub mod Words
+pub mod Kinds
+pub mod Types
 pub mod Places
 pub mod Claims
 pub mod Layouts

@@ -1,5 +1,5 @@
 -- The words of a message, and what reading and writing answer. Assumes nothing.
-use Rattle.std.specs.Prelude.{◌≡◌, ℕ, ◌≤◌, Bool, true, ◌&&◌, List, [], ◌∷◌, ◌++◌, length, take, drop, Some, None, Ok, Err, Option, Result, nat_le}
+use Rattle.std.specs.Prelude.{◌≡◌, ℕ, ◌%◌, ◌≤◌, Bool, true, ◌&&◌, List, [], ◌∷◌, ◌++◌, length, take, drop, Some, None, Ok, Err, Option, Result, nat_le}
 use Rattle.model.specs.Blocks.{referred}
 use Rattle.model.specs.Questions.{Question, Answered}
 use Rattle.model.specs.Refusals.{number}
@@ -13,9 +13,9 @@ use Rattle.model.specs.declared.statements.Claim.{Claim}
 use Rattle.model.specs.declared.statements.Offer.{Offer}
 use Rattle.model.specs.declared.statements.Voices.{Voices}
 use Rattle.words.specs.Claims.{are_claims}
-use Rattle.words.specs.Layouts.{type_of}
+use Rattle.words.specs.Layouts.{type_of, references_kinds}
 use Rattle.words.specs.Places.{InFront}
-use Rattle.words.specs.Words.{word, head, small, small_name, small_names, small_entry, small_voices, name_words, names_words, entry_words, voices_words}
+use Rattle.words.specs.Words.{word, head, small, small_name, small_names, small_entry, small_voices, name_words, names_words, entry_words, voices_words, right_kinds}
 use Rattle.words.specs.declared.layouts.Layout.{Layout}
 use Rattle.words.specs.declared.layouts.Layout.TheVariants.{Bind as BindLayout, Release as ReleaseLayout, Backbone as BackboneLayout, Offer as OfferLayout, Voices as VoicesLayout, Certificate as CertificateLayout, Claim as ClaimLayout, Probe as ProbeLayout, Leave as LeaveLayout}
 use Rattle.words.specs.declared.messages.Message.{Message}
@@ -96,6 +96,15 @@ pub record Lies (l : Layout) (s : Said) (ws : List ℕ) : Type 0 where
   pub layout : layout s ≡ l
   pub whole : fits s ≡ true
   pub same : body s ≡ ws
+
+-- the entry lies so in a side block's words, behind the four of its name and its author, and these are the words behind it
+pub record HoldsEntry (l : Layout) (e : Entry) (names ws : List ℕ) : Type 0 where
+  pub layout : entry_layout e ≡ l
+  pub whole : small_entry e ≡ true
+  pub same : entry_words e ++ names ≡ drop 5 ws
+  pub few : length names ≤ 16
+  pub fours : length names % 4 ≡ 0
+  pub kinds : right_kinds references_kinds names ≡ true
 
 -- Read answers the message whose words these are, or 24, and then they are no message's.
 abbrev pub Reads : List ℕ → Result Message Refusal → Type 0

@@ -1,7 +1,8 @@
 ghost use Rattle.std.specs.Prelude.{◌≡◌};
 ghost use Rattle.words.specs.Claims.{small_claims, WritesClaims, ReadsClaims};
 
-use crate::kinds::hold_claims;
+use crate::judging::hold_claims;
+use crate::kinds::Kind;
 use crate::parts::{is_small, value_of, word_of};
 use crate::writing::put;
 use model::{OfferClaim, Refusal};
@@ -10,12 +11,9 @@ use model::{OfferClaim, Refusal};
 fn are_small_claims(claims: &[OfferClaim]) -> bool
     ensures { result ≡ small_claims claims.now }
 {
-    for claim in claims {
-        if !is_small(claim.station) || !is_small(claim.height) {
-            return false;
-        }
-    }
-    true
+    claims
+        .iter()
+        .all(|claim| is_small(claim.station) && is_small(claim.height))
 }
 
 /// Writes the words of an offer's claims to the front of those handed in, and answers how many there are.
@@ -25,11 +23,15 @@ pub fn write_claims(claims: &[OfferClaim], words: &mut [u32]) -> Result<usize, R
     if claims.len() > 28 || !are_small_claims(claims) || words.len() < 2 * claims.len() {
         return Err(Refusal::CannotWrite);
     }
-    for i in 0..claims.len() {
+    // Counted, with no words.chunks_exact_mut(2).zip(claims): of that, std's contract says nothing about the words after the loop.
+    for (i, claim) in claims.iter().enumerate() {
         put(
             words,
             2 * i,
-            &[word_of(4, claims[i].station), word_of(2, claims[i].height)],
+            &[
+                word_of(Kind::Station, claim.station),
+                word_of(Kind::View, claim.height),
+            ],
         );
     }
     Ok(2 * claims.len())
@@ -46,10 +48,11 @@ pub fn read_claims(words: &[u32], claims: &mut [OfferClaim]) -> Result<usize, Re
     if claims.len() < count {
         return Err(Refusal::CannotWrite);
     }
-    for i in 0..count {
+    // Counted: tried claims.iter_mut().zip(..), but the loop's invariant cannot name claims that are lent to a zip.
+    for (i, pair) in words.chunks_exact(2).enumerate() {
         claims[i] = OfferClaim {
-            station: value_of(words[2 * i]),
-            height: value_of(words[2 * i + 1]),
+            station: value_of(pair[0]),
+            height: value_of(pair[1]),
         };
     }
     Ok(count)

@@ -1,5 +1,5 @@
 /// How a message lies in its words: by its type, and of side blocks by their entry.
-#[derive(Clone, Copy)]
+#[derive(Debug, Clone, Copy, PartialEq, Eq)]
 pub(crate) enum Layout {
     Bind,
     Release,

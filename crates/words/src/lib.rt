@@ -3,12 +3,14 @@
 #![tactic(auto)]
 
 mod claims;
+mod judging;
 mod kinds;
 mod laws;
 mod layouts;
 pub mod messages;
 mod parts;
 mod reading;
+mod types;
 mod writing;
 
 pub use claims::{read_claims, write_claims};

@@ -1,7 +1,7 @@
 use model::{BackboneBlock, Certificate, Claim, Offer, SideBlock, Voices};
 
 /// A message between stations.
-#[derive(Clone, Copy)]
+#[derive(Debug, Clone, Copy, PartialEq, Eq)]
 pub enum Message<'a> {
     Side(SideBlock),
     Backbone(BackboneBlock),

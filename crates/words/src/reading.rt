@@ -1,31 +1,34 @@
-ghost use Rattle.std.specs.Prelude.{◌≡◌, ℕ, ◌/◌, ◌%◌, ◌≤◌, true, [], ◌∷◌, length};
+ghost use Rattle.std.specs.Prelude.{◌≡◌, ◌%◌, ◌≤◌, true, length, MatchOption, ◌⊎◌};
 ghost use Rattle.model.specs.Blocks.{referred};
-ghost use Rattle.words.specs.Layouts.{counts, kinds_of, layout_at, layout_behind, references_kinds};
-ghost use Rattle.words.specs.Messages.{Lies, backbone as backboneT, offer as offerT, side as sideT, voices as voicesT, certificate as certificateT, claim as claimT, said, Reads};
+ghost use Rattle.words.specs.Layouts.{counts, kinds_of, layout_at, layout_behind, references_kinds, IsAnnouncedWrongly, IsSideLayout};
+ghost use Rattle.words.specs.Messages.{Lies, backbone as backboneT, side as sideT, voices as voicesT, claim as claimT, said, fits, body, HoldsEntry, Reads};
+ghost use Rattle.words.specs.Types.{type_number};
 ghost use Rattle.words.specs.Words.{names_words, small_names, right_kinds};
 
-use crate::kinds::have_right_kinds;
+use crate::judging::have_right_kinds;
+use crate::kinds::Kind;
 use crate::layouts::Layout;
 use crate::messages::Message;
-use crate::parts::{kind_of, name_from, value_of};
+use crate::parts::{COUNTS, has_kind, name_from, value_of};
+use crate::types::MessageType;
 use model::{
     BackboneBlock, Certificate, Claim, Entry, Offer, Parent, References, Refusal, SideBlock, Voices,
 };
 
-/// The layout of a type and a count of words behind the head.
-fn layout_of(kind: u32, count: usize) -> Option<Layout>
-    ensures { result ≡ layout_at kind count }
+/// The layout of a message of that type with so many words behind the head.
+fn layout_of(kind: MessageType, count: usize) -> Option<Layout>
+    ensures { result ≡ layout_at (type_number kind) count }
 {
-    match kind {
-        1 if count >= 8 && count <= 24 && count % 4 == 0 => Some(Layout::Bind),
-        1 if count >= 7 && count <= 23 && count % 4 == 3 => Some(Layout::Release),
-        2 if count >= 11 && count <= 27 && count % 4 == 3 => Some(Layout::Backbone),
-        3 if count >= 8 && count <= 64 && count % 2 == 0 => Some(Layout::Offer),
-        4 if count == 7 => Some(Layout::Voices),
-        5 if count == 7 => Some(Layout::Certificate),
-        6 if count == 3 => Some(Layout::Claim),
-        7 if count == 0 => Some(Layout::Probe),
-        8 if count == 0 => Some(Layout::Leave),
+    match (kind, count) {
+        (MessageType::Side, 8..=24) if count % 4 == 0 => Some(Layout::Bind),
+        (MessageType::Side, 7..=23) if count % 4 == 3 => Some(Layout::Release),
+        (MessageType::Backbone, 11..=27) if count % 4 == 3 => Some(Layout::Backbone),
+        (MessageType::Offer, 8..=64) if count % 2 == 0 => Some(Layout::Offer),
+        (MessageType::Voices, 7) => Some(Layout::Voices),
+        (MessageType::Certificate, 7) => Some(Layout::Certificate),
+        (MessageType::Claim, 3) => Some(Layout::Claim),
+        (MessageType::Probe, 0) => Some(Layout::Probe),
+        (MessageType::Leave, 0) => Some(Layout::Leave),
         _ => None,
     }
 }
@@ -34,10 +37,20 @@ fn layout_of(kind: u32, count: usize) -> Option<Layout>
 fn announced(head: u32, count: usize) -> Option<Layout>
     ensures { result ≡ layout_behind head count }
 {
-    if kind_of(head) != 1 || (head % 0x10_0000) as usize != count {
+    if !has_kind(head, Kind::Head) || (head % COUNTS) as usize != count {
         return None;
     }
-    layout_of(value_of(head) / 0x10_0000, count)
+    let kind = MessageType::try_from(value_of(head) / COUNTS).ok()?;
+    layout_of(kind, count)
+}
+
+/// The words behind a head: as many as their layout takes, and of its kinds.
+#[derive(Clone, Copy)]
+struct Body<'a> {
+    layout: Layout,
+    words: &'a [u32],
+    ghost counted: { counts layout (length words.now) ≡ true },
+    ghost judged: { right_kinds (kinds_of layout) words.now ≡ true },
 }
 
 /// The references that the words hold, four words each.
@@ -48,7 +61,7 @@ fn references(words: &[u32]) -> References
     let mut found = References::Empty;
     let mut left = words;
     while let [a, b, c, d, behind @ ..] = left {
-        let Some(more) = found.with(name_from(*a, *b, *c, *d)) else {
+        let Some(more) = found.with(name_from([*a, *b, *c, *d])) else {
             unreachable()
         };
         found = more;
@@ -57,136 +70,141 @@ fn references(words: &[u32]) -> References
     found
 }
 
-fn bind(words: &[u32]) -> SideBlock
-    requires { (counts Layout.Bind (length words.now) ≡ true) × (right_kinds (kinds_of Layout.Bind) words.now ≡ true) }
-    ensures { Lies Layout.Bind (sideT result) words.now }
-{
-    let [a, b, c, d, author, sonde, certificate, flight, names @ ..] = words else {
-        unreachable()
-    };
-    SideBlock {
-        name: name_from(*a, *b, *c, *d),
-        author: value_of(*author),
-        entry: Entry::Bind {
-            sonde: value_of(*sonde),
-            certificate: value_of(*certificate),
-            flight: value_of(*flight),
-        },
-        references: references(names),
-    }
-}
-
-fn release(words: &[u32]) -> SideBlock
-    requires { (counts Layout.Release (length words.now) ≡ true) × (right_kinds (kinds_of Layout.Release) words.now ≡ true) }
-    ensures { Lies Layout.Release (sideT result) words.now }
-{
-    let [a, b, c, d, author, sonde, flight, names @ ..] = words else {
-        unreachable()
-    };
-    SideBlock {
-        name: name_from(*a, *b, *c, *d),
-        author: value_of(*author),
-        entry: Entry::Release {
-            sonde: value_of(*sonde),
-            flight: value_of(*flight),
-        },
-        references: references(names),
-    }
-}
-
-fn backbone(words: &[u32]) -> BackboneBlock
-    requires { (counts Layout.Backbone (length words.now) ≡ true) × (right_kinds (kinds_of Layout.Backbone) words.now ≡ true) }
-    ensures { Lies Layout.Backbone (backboneT result) words.now }
-{
-    let [a, b, c, d, author, view, below, e, f, g, h, names @ ..] = words else {
-        unreachable()
-    };
-    BackboneBlock {
-        name: name_from(*a, *b, *c, *d),
-        author: value_of(*author),
-        view: value_of(*view),
-        parent: Parent {
-            view: value_of(*below),
-            name: name_from(*e, *f, *g, *h),
-        },
-        references: references(names),
-    }
-}
-
-fn offer(words: &[u32]) -> Message<'_>
-    requires { (counts Layout.Offer (length words.now) ≡ true) × (right_kinds (kinds_of Layout.Offer) words.now ≡ true) }
-    ensures { Lies Layout.Offer (said result) words.now }
-{
-    let [station, view, a, b, c, d, grade, mask, claims @ ..] = words else {
-        unreachable()
-    };
-    let offer = Offer {
-        station: value_of(*station),
-        view: value_of(*view),
-        name: name_from(*a, *b, *c, *d),
-        grade: value_of(*grade),
-        mask: value_of(*mask),
-    };
-    Message::Offer { offer, claims }
-}
-
-fn voices(words: &[u32]) -> Voices
-    requires { (counts Layout.Voices (length words.now) ≡ true) × (right_kinds (kinds_of Layout.Voices) words.now ≡ true) }
-    ensures { Lies Layout.Voices (voicesT result) words.now }
-{
-    let [grade, view, a, b, c, d, mask] = words else {
-        unreachable()
-    };
-    Voices {
-        grade: value_of(*grade),
-        view: value_of(*view),
-        name: name_from(*a, *b, *c, *d),
-        mask: value_of(*mask),
-    }
-}
-
-fn claim(words: &[u32]) -> Claim
-    requires { (counts Layout.Claim (length words.now) ≡ true) × (right_kinds (kinds_of Layout.Claim) words.now ≡ true) }
-    ensures { Lies Layout.Claim (claimT result) words.now }
-{
-    let [station, view, height] = words else {
-        unreachable()
-    };
-    Claim {
-        station: value_of(*station),
-        view: value_of(*view),
-        height: value_of(*height),
-    }
-}
-
-/// The message that lies so behind its head.
-fn message(layout: Layout, words: &[u32]) -> Message<'_>
-    requires { (counts layout (length words.now) ≡ true) × (right_kinds (kinds_of layout) words.now ≡ true) }
-    ensures { Lies layout (said result) words.now }
-{
-    match layout {
-        Layout::Bind => Message::Side(bind(words)),
-        Layout::Release => Message::Side(release(words)),
-        Layout::Backbone => Message::Backbone(backbone(words)),
-        Layout::Offer => offer(words),
-        Layout::Voices => Message::Voices(voices(words)),
-        Layout::Certificate => {
-            let Voices {
-                grade,
-                view,
-                name,
-                mask,
-            } = voices(words);
-            Message::Certificate(Certificate {
-                grade,
-                view,
-                name,
-                mask,
-            })
+impl<'a> Body<'a> {
+    /// The words, if they lie as the head word announces.
+    fn behind(head: u32, words: &'a [u32]) -> Option<Self>
+        ensures { MatchOption result (IsAnnouncedWrongly head words.now) (λ b. (layout_behind head (length words.now) ≡ Some b.layout) × (b.words.now ≡ words.now)) }
+    {
+        let layout = announced(head, words.len())?;
+        // An if: a Body may be made only where the test holds, and then_some makes it before.
+        if have_right_kinds(layout, words) {
+            Some(Body { layout, words })
+        } else {
+            None
         }
-        Layout::Claim => Message::Claim(claim(words)),
-        Layout::Probe => Message::Probe,
-        Layout::Leave => Message::Leave,
+    }
+
+    /// The entry of a side block, and the words of its references.
+    fn entry(self) -> (Entry, &'a [u32])
+        requires { IsSideLayout self.layout }
+        ensures { HoldsEntry self.entry.layout result.0 result.1.now self.entry.words.now }
+    {
+        match (self.layout, self.words) {
+            (Layout::Bind, [_, _, _, _, _, sonde, certificate, flight, names @ ..]) => {
+                let entry = Entry::Bind {
+                    sonde: value_of(*sonde),
+                    certificate: value_of(*certificate),
+                    flight: value_of(*flight),
+                };
+                (entry, names)
+            }
+            (Layout::Release, [_, _, _, _, _, sonde, flight, names @ ..]) => {
+                let entry = Entry::Release {
+                    sonde: value_of(*sonde),
+                    flight: value_of(*flight),
+                };
+                (entry, names)
+            }
+            _ => unreachable(),
+        }
+    }
+
+    fn side(self) -> SideBlock
+        requires { IsSideLayout self.layout }
+        ensures { Lies self.entry.layout (sideT result) self.entry.words.now }
+    {
+        let [a, b, c, d, author, ..] = self.words else {
+            unreachable()
+        };
+        let (entry, names) = self.entry();
+        SideBlock {
+            name: name_from([*a, *b, *c, *d]),
+            author: value_of(*author),
+            entry,
+            references: references(names),
+        }
+    }
+
+    fn backbone(self) -> BackboneBlock
+        requires { self.layout ≡ Layout.Backbone }
+        ensures { Lies self.entry.layout (backboneT result) self.entry.words.now }
+    {
+        let [a, b, c, d, author, view, below, e, f, g, h, names @ ..] = self.words else {
+            unreachable()
+        };
+        BackboneBlock {
+            name: name_from([*a, *b, *c, *d]),
+            author: value_of(*author),
+            view: value_of(*view),
+            parent: Parent {
+                view: value_of(*below),
+                name: name_from([*e, *f, *g, *h]),
+            },
+            references: references(names),
+        }
+    }
+
+    fn offer(self) -> Message<'a>
+        requires { self.layout ≡ Layout.Offer }
+        ensures { Lies self.entry.layout (said result) self.entry.words.now }
+    {
+        let [station, view, a, b, c, d, grade, mask, claims @ ..] = self.words else {
+            unreachable()
+        };
+        let offer = Offer {
+            station: value_of(*station),
+            view: value_of(*view),
+            name: name_from([*a, *b, *c, *d]),
+            grade: value_of(*grade),
+            mask: value_of(*mask),
+        };
+        Message::Offer { offer, claims }
+    }
+
+    /// What the words of voices say, or those of a certificate, which are the same.
+    fn voices(self) -> Voices
+        requires { (self.layout ≡ Layout.Voices) ⊎ (self.layout ≡ Layout.Certificate) }
+        ensures { (fits (voicesT result) ≡ true) × (body (voicesT result) ≡ self.entry.words.now) }
+    {
+        let [grade, view, a, b, c, d, mask] = self.words else {
+            unreachable()
+        };
+        Voices {
+            grade: value_of(*grade),
+            view: value_of(*view),
+            name: name_from([*a, *b, *c, *d]),
+            mask: value_of(*mask),
+        }
+    }
+
+    fn claim(self) -> Claim
+        requires { self.layout ≡ Layout.Claim }
+        ensures { Lies self.entry.layout (claimT result) self.entry.words.now }
+    {
+        let [station, view, height] = self.words else {
+            unreachable()
+        };
+        Claim {
+            station: value_of(*station),
+            view: value_of(*view),
+            height: value_of(*height),
+        }
+    }
+
+    /// The message that lies so behind its head.
+    fn message(self) -> Message<'a>
+        ensures { Lies self.entry.layout (said result) self.entry.words.now }
+    {
+        match self.layout {
+            Layout::Bind | Layout::Release => Message::Side(self.side()),
+            Layout::Backbone => Message::Backbone(self.backbone()),
+            Layout::Offer => self.offer(),
+            Layout::Voices => Message::Voices(self.voices()),
+            Layout::Certificate => Message::Certificate(Certificate::from(self.voices())),
+            Layout::Claim => Message::Claim(self.claim()),
+            Layout::Probe => Message::Probe,
+            Layout::Leave => Message::Leave,
+        }
     }
 }
 
@@ -197,11 +215,6 @@ pub fn read(words: &[u32]) -> Result<Message<'_>, Refusal>
     let [head, rest @ ..] = words else {
         return Err(Refusal::NotWhole);
     };
-    let Some(layout) = announced(*head, rest.len()) else {
-        return Err(Refusal::NotWhole);
-    };
-    if !have_right_kinds(layout, 0, rest) {
-        return Err(Refusal::NotWhole);
-    }
-    Ok(message(layout, rest))
+    let body = Body::behind(*head, rest).ok_or(Refusal::NotWhole)?;
+    Ok(body.message())
 }

@@ -1,12 +1,13 @@
-use Rattle.std.proofs.Common.{rules}
-use Rattle.words.proofs.ClaimWords.{small_more, small_all}
+use Rattle.std.proofs.Common.{◌∙◌, ◌&&◌, rules, tests}
+use Rattle.std.proofs.lemmas.Iterator.{YieldsList-from_slice}
+use Rattle.std.proofs.lemmas.Iterator.Search.{all_from_yields_List}
+use Rattle.words.specs.Words.{small}
+use Rattle.words.proofs.ClaimWords.{all_small}
 use Rattle.words.proofs.claims.are_small_claims.Goals as goal
 
-pub returns-then-not-is_small : goal.returns-then-not-is_small
-returns-then-not-is_small c = let e = small_more c.args.claims.now c.loop-claim.claim-index c.loop-claim-test.true in search rules
-
-pub loop-claim-preserved : goal.loop-claim-preserved
-loop-claim-preserved c = let e = small_more c.args.claims.now c.loop-claim.claim-index c.loop-claim-test.true in search rules
-
 pub returns : goal.returns
-returns c = let e = small_all c.args.claims.now c.loop-claim.claim-index c.loop-claim-test.false in search rules
+returns c =
+    let claims = c.args.claims.now in
+    all_from_yields_List (λ claim. small claim.station && small claim.height) c.all.new.self _ _ c.all.ensures.ran (YieldsList-from_slice claims cc)
+    (λ x b q k. search (rules, tests))
+    ∙ all_small claims

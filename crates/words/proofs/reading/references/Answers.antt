@@ -1,5 +1,5 @@
-use Rattle.std.proofs.Common.{◌<◌, ◌≤◌, length, arith, rules}
-use Rattle.words.proofs.NamesWords.{four_words, found_none, found_more, found_all}
+use Rattle.std.proofs.Common.{◌≤◌, length, arith, rules}
+use Rattle.words.proofs.NamesWords.{four_words, found_none, found_more}
 use Rattle.words.proofs.reading.references.Goals as goal
 
 pub loop-left-init : goal.loop-left-init
@@ -17,9 +17,3 @@ loop-left-preserved c =
     let left = c.loop-left.left.now in
     let h : 4 ≤ length left = search rules in
     found_more c.args.words.now left _ _ c.name_from.result c.loop-left.invariant h c.name_from.ensures.words c.name_from.ensures.small c.in-Some.ensures
-
-pub returns : goal.returns
-returns c =
-    let left = c.loop-left.left.now in
-    let h : length left < 4 = search rules in
-    (found_all c.args.words.now left _ c.loop-left.invariant h c.requires.1, c.loop-left.invariant.small)

@@ -1,16 +1,14 @@
-use Rattle.std.proofs.Common.{ap, ◌∙◌, rules}
-use Rattle.model.specs.Blocks.{referred}
-use Rattle.words.specs.Words.{small_names}
-use Rattle.words.proofs.SmallNames.{small_none, small_more}
+use Rattle.std.proofs.Common.{◌∙◌, rules, tests}
+use Rattle.std.proofs.lemmas.Iterator.Consumers.{YieldsList-from_first}
+use Rattle.std.proofs.lemmas.Iterator.Search.{all_from_yields_List}
+use Rattle.model.specs.Blocks.{referred, names_left}
+use Rattle.model.specs.Ranges.{halves_fit}
+use Rattle.words.proofs.SmallNames.{all_small}
 use Rattle.words.proofs.writing.are_small_names.Goals as goal
 
-pub returns-then-not-is_small_name : goal.returns-then-not-is_small_name
-returns-then-not-is_small_name c =
-    let e = ap small_names c.in-Some.ensures ∙ small_more c.in-Some.name (referred c.in-Some.behind) in search rules
-
-pub loop-name-preserved : goal.loop-name-preserved
-loop-name-preserved c =
-    let e = ap small_names c.in-Some.ensures ∙ small_more c.in-Some.name (referred c.in-Some.behind) in search rules
-
 pub returns : goal.returns
-returns c = let e = ap small_names c.in_default.ensures ∙ small_none in search rules
+returns c =
+    let names = referred c.args.references in
+    all_from_yields_List (λ n. halves_fit n) c.all.new.self _ _ c.all.ensures.ran (YieldsList-from_first (λ n. n) names_left names c.into_iter.ensures.into_iter_gives)
+    (λ x b q k. search (rules, tests))
+    ∙ all_small names
