@@ -1,14 +1,20 @@
--- The ledger that a support stands for, and whose name a leader's has. Assumes nothing.
-use Rattle.std.specs.Prelude.{ℕ, Bool, not, ◌||◌, Option, ◌==◌}
-use Rattle.model.specs.declared.names.Name.{Name}
-use Rattle.model.specs.declared.numbers.Numbers.{Numbers}
-use Rattle.model.specs.Quorums.{leads}
+-- The ledger that a support stands for, and what holds of each that is kept. Assumes nothing.
+use Rattle.std.specs.Prelude.{Bool, true, not, ◌&&◌, ◌||◌, Some, None, Option, nat_lt}
+use Rattle.model.specs.Quorums.{leads, within}
 use Rattle.model.specs.Ledgers.{Ledger, empty, enter, is}
+use Rattle.broadcast.specs.declared.ballots.Ballot.{Ballot}
 use Rattle.broadcast.specs.declared.support.Support.{Support}
 
-abbrev pub supported : Support → Ledger
-supported w = enter w.name w.mask empty
+abbrev pub supported : Option Support → Ledger
+supported None = empty
+supported (Some w) = enter w.name w.mask empty
 
--- a leader's support is under its own first vote, or nobody's
-abbrev pub owned : Numbers → ℕ → Option Name → Support → Bool
-owned s v first w = not (leads s v) || (w.mask == 0 || is w.name first)
+-- it has stations, and nothing but stations
+abbrev pub inside : Ballot → Option Support → Bool
+inside b None = true
+inside b (Some w) = nat_lt 0 w.mask && within b.numbers w.mask
+
+-- a leader's is under its own first vote
+abbrev pub owned : Ballot → Option Support → Bool
+owned b None = true
+owned b (Some w) = not (leads b.numbers b.view) || is w.name b.first

@@ -5,14 +5,17 @@
 ghost use Rattle.std.specs.Prelude.{◌≡◌};
 ghost use Rattle.std.specs.Option.{option_map};
 ghost use Rattle.model.specs.Refusals.{number};
-ghost use Rattle.model.specs.Questions.{first_no};
-ghost use Rattle.model.specs.Ledgers.{is, under};
+ghost use Rattle.model.specs.Questions.{Judged, first_no};
+ghost use Rattle.model.specs.Ledgers.{under};
 ghost use Rattle.model.specs.Broadcasts.{Meaning, Asking, Hearing, Keeps, ledger, complete, Completed, opened, closed};
 ghost use Rattle.model.specs.Broadcasts.{OfferAnswered, HearAnswered, hear_questions};
 
 use model::{Grade, Name, Numbers, Refusal, SecondVote};
 
+// Two structs, each with its own `hear`: the project sets two makes that implement the traits. What they share is `Ballot` and `PerGrade`.
+mod ballots;
 pub mod clauses;
+mod grades;
 pub mod relayed;
 pub mod relays;
 pub mod support;
@@ -52,9 +55,21 @@ pub trait Observe {
     fn mask(&self, grade: Grade, name: Name) -> u32
         ensures { result ≡ under name (ledger (meaning self.now) grade) };
 
+    // Grade, name and mask come as three: the ghost members take them so, and a struct would be opened again in each clause and each body.
+
     /// Why `hear` would be refused, if it would.
     fn refusal(&self, grade: Grade, name: Name, mask: u32) -> Option<Refusal>
         ensures { option_map number result ≡ first_no (hear_questions fits free (meaning self.now) grade name mask) };
+
+    /// The same as an answer that `?` hands on.
+    fn judge(&self, grade: Grade, name: Name, mask: u32) -> Result<(), Refusal>
+        ensures { Judged (hear_questions fits free (meaning self.now) grade name mask) (λ _. Unit {0}) result }
+    {
+        match self.refusal(grade, name, mask) {
+            Some(why) => Err(why),
+            None => Ok(()),
+        }
+    }
 
     /// The name for which the view is complete, if it is for one.
     fn completed(&self) -> Option<Name>
@@ -95,14 +110,4 @@ pub trait Broadcast: Observe + Sized {
         ensures { Self.Observe.meaning self.new ≡ closed (Self.Observe.meaning self.old) };
 
     ghost keeps: { Keeps Self.Observe.fits Self.Observe.free hears };
-}
-
-/// Whether the entry is that name.
-pub(crate) fn is_entry(entry: Option<Name>, name: Name) -> bool
-    ensures { result ≡ is name entry }
-{
-    match entry {
-        Some(held) => name.is(held),
-        None => false,
-    }
 }

@@ -1,6 +1,6 @@
 use model::Name;
 
-/// The stations of a mask, all under one name. A mask of 0 is nobody, whatever the name.
+/// Stations that are all under one name: a mask of them, which is not empty.
 #[derive(Clone, Copy)]
 pub struct Support {
     pub(crate) name: Name,

@@ -2,11 +2,11 @@
 
 #![tactic(auto)]
 
-ghost use Rattle.std.specs.Prelude.{◌≡◌, Bool};
-ghost use Rattle.model.specs.Orders.{Before, Lawful, by_author, by_sonde, name_before, then_by, sonde_of, sort_of};
+ghost use Rattle.std.specs.Prelude.{◌≡◌, Bool, IsTrue, ◌↔◌};
+ghost use Rattle.model.specs.Orders.{Before, Lawful, by_author, by_sonde, sonde_of, sort_of};
 ghost use Rattle.model.proofs.OrderLaws.{by_author_lawful, by_sonde_lawful};
 
-use model::{Entry, SideBlock};
+use model::{Entry, Name, SideBlock};
 
 /// An order of side blocks: of two differently named blocks exactly one is before the other, none is before itself, and before is transitive.
 pub trait Order {
@@ -25,42 +25,16 @@ pub struct ByAuthor;
 /// By sonde, release before bind, then name.
 pub struct BySonde;
 
-fn sonde_of(entry: Entry) -> u32
-    ensures { result ≡ sonde_of entry }
+/// What the order by sonde goes by. A release is before a bind, as false is before true.
+fn sonde_key(block: &SideBlock) -> (u32, bool, Name)
+    ensures sonde { result.0 ≡ sonde_of block.now.entry }
+    ensures sort { IsTrue result.1 ↔ (sort_of block.now.entry ≡ 1) }
+    ensures name { result.2 ≡ block.now.name }
 {
-    match entry {
-        Entry::Bind {
-            sonde,
-            certificate: _,
-            flight: _,
-        } => sonde,
-        Entry::Release { sonde, flight: _ } => sonde,
+    match block.entry {
+        Entry::Release { sonde, .. } => (sonde, false, block.name),
+        Entry::Bind { sonde, .. } => (sonde, true, block.name),
     }
-}
-
-// A release is before a bind.
-fn sort_of(entry: Entry) -> u32
-    ensures { result ≡ sort_of entry }
-{
-    match entry {
-        Entry::Release {
-            sonde: _,
-            flight: _,
-        } => 0,
-        Entry::Bind {
-            sonde: _,
-            certificate: _,
-            flight: _,
-        } => 1,
-    }
-}
-
-fn sort_then_name(a: &SideBlock, b: &SideBlock) -> bool
-    ensures { result ≡ then_by (sort_of a.now.entry) (sort_of b.now.entry) (name_before a.now.name b.now.name) }
-{
-    let s = sort_of(a.entry);
-    let t = sort_of(b.entry);
-    s < t || s == t && a.name.before(b.name)
 }
 
 impl Order for ByAuthor {
@@ -69,7 +43,7 @@ impl Order for ByAuthor {
     ghost lawful = { by_author_lawful };
 
     fn before(a: &SideBlock, b: &SideBlock) -> bool {
-        a.author < b.author || a.author == b.author && a.name.before(b.name)
+        (a.author, a.name) < (b.author, b.name)
     }
 }
 
@@ -79,8 +53,6 @@ impl Order for BySonde {
     ghost lawful = { by_sonde_lawful };
 
     fn before(a: &SideBlock, b: &SideBlock) -> bool {
-        let s = sonde_of(a.entry);
-        let t = sonde_of(b.entry);
-        s < t || s == t && sort_then_name(a, b)
+        sonde_key(a) < sonde_key(b)
     }
 }

@@ -14,6 +14,7 @@ pub fn claimants(numbers: Numbers, parent: u32, claims: &[OfferClaim]) -> u32
 {
     let n = numbers.stations();
     let mut mask: u32 = 0;
+    // A loop over the claim records that builds a mask: the form that the project sets for this count.
     for claim in claims {
         if claim.station < n && claim.height <= parent {
             mask |= 1u32 << claim.station;
@@ -26,22 +27,18 @@ pub fn claimants(numbers: Numbers, parent: u32, claims: &[OfferClaim]) -> u32
 pub fn heights_below(claims: &[OfferClaim], limit: u32) -> bool
     ensures { result ≡ heights_below limit claims.now }
 {
-    for claim in claims {
-        if claim.height >= limit {
-            return false;
-        }
-    }
-    true
+    claims.iter().all(|claim| claim.height < limit)
 }
 
 /// The mask of the stations with a kept claim.
+#[tactic(auto, using(model::proofs::Claims::keepers_none))]
 pub fn keepers(numbers: Numbers, heights: &[Option<u32>; 28]) -> u32
     ensures { result ≡ keepers_of (stations numbers) heights.now }
 {
     let n = numbers.stations() as usize;
     let mut mask: u32 = 0;
-    for i in 0..n {
-        if heights[i].is_some() {
+    for (i, height) in heights[..n].iter().enumerate() {
+        if height.is_some() {
             mask |= 1u32 << i;
         }
     }

@@ -1,35 +1,17 @@
-use Rattle.std.proofs.Common.{◌≡◌, ◌+◌, [], ◌∷◌, get_or, drop, rules}
-use Rattle.std.proofs.lemmas.List.{at_drop_more, at_drop_all}
+use Rattle.std.proofs.Common.{◌≡◌, ℕ, ◌&&◌, ltb, List, [], ◌∷◌, refl, ap, ◌∙◌, rules, tests}
+use Rattle.std.specs.List.{list_all}
+use Rattle.std.proofs.lemmas.Iterator.{YieldsList-from_slice}
+use Rattle.std.proofs.lemmas.Iterator.Search.{all_from_yields_List}
 use Rattle.model.specs.declared.statements.OfferClaim.{OfferClaim}
 use Rattle.model.specs.Claims.{heights_below}
-use Rattle.model.proofs.Claims.{below_more, below_none}
 use Rattle.tallies.proofs.heights_below.Goals as goal
 
-pub loop-claim-preserved : goal.loop-claim-preserved
-loop-claim-preserved c =
-    let xs = c.args.claims.now in
-    let u = c.args.limit in
-    let i = c.loop-claim.claim-index in
-    let d : OfferClaim = record { station = 0; height = 0 } in
-    let e : heights_below u (drop i xs) ≡ heights_below u (get_or xs i d ∷ drop (i + 1) xs) = at_drop_more (heights_below u) xs i d c.loop-claim-test.true in
-    let f = below_more u (get_or xs i d) (drop (i + 1) xs) in
-    search rules
+below_all : (u : ℕ) (cs : List OfferClaim) → list_all (λ claim. ltb claim.height u) cs ≡ heights_below u cs
+unfolding heights_below
+below_all u [] = refl
+below_all u (c ∷ cs) = ap (λ b. ltb c.height u && b) (below_all u cs)
 
 pub returns : goal.returns
 returns c =
-    let xs = c.args.claims.now in
-    let u = c.args.limit in
-    let i = c.loop-claim.claim-index in
-    let e : heights_below u (drop i xs) ≡ heights_below u [] = at_drop_all (heights_below u) xs i c.loop-claim-test.false in
-    let f = below_none u in
-    search rules
-
-pub returns-then-claim-limit : goal.returns-then-claim-limit
-returns-then-claim-limit c =
-    let xs = c.args.claims.now in
-    let u = c.args.limit in
-    let i = c.loop-claim.claim-index in
-    let d : OfferClaim = record { station = 0; height = 0 } in
-    let e : heights_below u (drop i xs) ≡ heights_below u (get_or xs i d ∷ drop (i + 1) xs) = at_drop_more (heights_below u) xs i d c.loop-claim-test.true in
-    let f = below_more u (get_or xs i d) (drop (i + 1) xs) in
-    search rules
+    all_from_yields_List _ _ _ _ c.all.ensures.ran (YieldsList-from_slice c.args.claims.now cc) (λ claim b q k. search (rules, tests))
+    ∙ below_all c.args.limit c.args.claims.now

@@ -1,13 +1,12 @@
-use Rattle.std.proofs.Common.{rules}
+use Rattle.std.proofs.Common.{None, rules, arith}
 use lib.Bits.{or_zero_r}
-use Rattle.model.proofs.Claims.{keepers_more, keepers_none}
+use Rattle.std.proofs.lemmas.List.{get_or-take}
+use Rattle.model.proofs.Claims.{keepers_more}
 use Rattle.tallies.proofs.keepers.Goals as goal
-
-pub loop-i-init : goal.loop-i-init
-loop-i-init c = let e = keepers_none c.args.heights.now in search rules
 
 pub loop-i-preserved : goal.loop-i-preserved
 loop-i-preserved c =
     let e = keepers_more c.loop-i.i c.args.heights.now in
     let z = or_zero_r c.loop-i.mask in
+    let t = get_or-take c.stations-n.result c.args.heights.now c.loop-i.i None (omega arith) in
     search rules
