@@ -1,6 +1,5 @@
--- One line more of a lookup.
-use Rattle.std.proofs.Common.{◌≡◌, ℕ, ◌+◌, ◌<◌, List, length, get_or, drop, Some, None, fold, Option, sym, refl, ap, ◌∙◌}
-use Rattle.std.proofs.lemmas.List.{drop_more}
+-- A lookup, line by line.
+use Rattle.std.proofs.Common.{◌≡◌, ℕ, List, [], ◌∷◌, Some, None, fold, Option, sym, refl, ◌∙◌}
 use Rattle.model.specs.declared.answers.Binding.{Binding}
 use Rattle.model.specs.declared.names.Name.{Name}
 use Rattle.model.specs.declared.blocks.Entry.{Entry}
@@ -16,8 +15,6 @@ follow_one sonde h None rest = refl
 follow_one sonde h (Some (Side s)) rest = refl
 follow_one sonde h (Some (Backbone b)) rest = refl
 
-pub follow_more : (K : Book) (sonde : ℕ) (lines : List Name) (i : ℕ) (d : Name) (h r : Option Binding) → i < length lines → r ≡ line_effect sonde h (K (get_or lines i d)) → fold (entry_effect sonde) h (entries K (drop i lines)) ≡ fold (entry_effect sonde) r (entries K (drop (i + 1) lines))
-follow_more K sonde lines i d h r lt e =
-    ap (λ l. fold (entry_effect sonde) h (entries K l)) (drop_more lines i d lt)
-    ∙ follow_one sonde h (K (get_or lines i d)) (entries K (drop (i + 1) lines))
-    ∙ ap (λ x. fold (entry_effect sonde) x (entries K (drop (i + 1) lines))) (sym e)
+pub follow_lines : (K : Book) (sonde : ℕ) (h : Option Binding) (lines : List Name) → fold (λ held n. line_effect sonde held (K n)) h lines ≡ fold (entry_effect sonde) h (entries K lines)
+follow_lines K sonde h [] = refl
+follow_lines K sonde h (n ∷ lines) = follow_lines K sonde (line_effect sonde h (K n)) lines ∙ sym (follow_one sonde h (K n) (entries K lines))

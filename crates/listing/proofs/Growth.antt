@@ -20,9 +20,6 @@ pub record Sofar (before : Before) (bs : List Block) (start L M : List Name) (ms
   pub goes_on : (rest : List Name) → Lines before (find bs) start M rest → Lines before (find bs) start L (added ++ rest)
   pub left : Marks bs (Pending bs start M) ms
 
-pub sofar_none : (before : Before) (bs : List Block) (start L : List Name) (ms : List Bool) → Marks bs (Pending bs start L) ms → Sofar before bs start L L ms
-sofar_none before bs start L ms m = record { added = []; grown = sym (append-nil L); goes_on = λ rest l. l; left = m }
-
 module _ (before : Before) (law : Lawful before) (bs : List Block) (ok : Sound bs) (start L M : List Name) (ms : List Bool) (w : List ℕ) (n : ℕ) (all : Gathered ms (length ms) w n) (so : Sofar before bs start L M ms) where
   pub sofar_more : (b : ℕ) (s : SideBlock) → Best before bs ms w n (Some (b, s)) → Sofar before bs start L (M ++ (s.name ∷ [])) (set ms b false)
   sofar_more b s h =

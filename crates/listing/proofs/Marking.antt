@@ -1,8 +1,8 @@
 -- Marks: one more, one less, and how they spread along references.
-use Rattle.std.proofs.Common.{◌≡◌, ℕ, zero, suc, ◌+◌, ◌<◌, ◌≤◌, Bool, true, false, not, ◌&&◌, ◌||◌, ◌≢◌, ◌⊎◌, List, [], ◌∷◌, ◌++◌, length, get_or, set, replicate, Some, None, sym, refl, ap, ◌∙◌, subst, inl, inr, arith}
+use Rattle.std.proofs.Common.{◌≡◌, ℕ, zero, suc, ◌+◌, ◌<◌, ◌≤◌, Bool, true, false, cond, not, ◌&&◌, ◌||◌, ◌≢◌, ◌⊎◌, List, [], ◌∷◌, ◌++◌, length, get_or, set, take, replicate, Some, None, sym, refl, ap, ◌∙◌, subst, inl, inr, arith}
 use Rattle.std.specs.List.{slice_get}
-use Rattle.std.proofs.lemmas.List.{get_or-set_same, get_or-set_other, set_past}
-use Rattle.std.proofs.lemmas.Bool.{cases_eq, cases_lt, cases_Bool, both_ways, or_cases, or_left, or_right, and_parts, and_from, not_from_false, not-true}
+use Rattle.std.proofs.lemmas.List.{get_or-set_same, get_or-set_other, length_push, get_or_push, get_or_append_left}
+use Rattle.std.proofs.lemmas.Bool.{cases_eq, cases_lt, cases_Bool, cond-true, cond-false, both_ways, or_cases, or_left, or_right, and_parts, and_from, not_from_false, not-true}
 use Rattle.model.specs.declared.names.Name.{Name}
 use Rattle.model.specs.declared.blocks.SideBlock.{SideBlock}
 use Rattle.model.specs.declared.blocks.Block.{Block}
@@ -12,54 +12,92 @@ use Rattle.model.specs.Blocks.{referred, name_of}
 use Rattle.model.specs.Listing.{has, Reached, direct, onward}
 use Rattle.model.proofs.Naming.{same_true, eq_same, has_push}
 use Rattle.book.specs.Places.{find, Sound}
-use Rattle.book.proofs.Nths.{nth_below, nth_some}
+use Rattle.std.proofs.lemmas.Option.{slice_get_within}
+use Rattle.book.proofs.Nths.{nth_some}
 use Rattle.book.proofs.Finds.{find_any, find_some}
 use Rattle.book.proofs.Lower.{one_place, find_nth, reference_lower}
-use Rattle.listing.specs.Marks.{mark, Marks, Adds, Among, Spread, Pending, Without, Gathered}
+use Rattle.std.proofs.lemmas.List.Sums.{count_by_more_yes, count_by_more_no}
+use Rattle.places.specs.declared.list.Bounded.{Bounded}
+use Rattle.places.specs.Held.{held, bound}
+use Rattle.book.specs.declared.shelf.Shelf.{Shelf}
+use Rattle.listing.specs.declared.marks.MarkedShelf.{MarkedShelf}
+use Rattle.listing.specs.Marks.{mark, Remarked, Marks, Turned, Adds, Among, Spread, Pending, Without, Gathered, count}
+use Rattle.std.proofs.lemmas.Bool.{false≢true}
 
-pub mark_set : (ms : List Bool) (i j : ℕ) → mark ms j ≡ true → mark (set ms i true) j ≡ true
-mark_set ms i j e = elim (cases_eq j i) [
-  | inl same ↦ elim (cases_lt i (length ms)) [
-    | inl lt ↦ subst (λ k. mark (set ms i true) k ≡ true) (sym same) (get_or-set_same ms i true false lt)
-    | inr ge ↦ subst (λ l. mark l j ≡ true) (sym (set_past ms i true ge)) e
-  ]
-  | inr ne ↦ get_or-set_other ms i j true false ne ∙ e
-]
-
--- marks at no place more
-pub adds_none : (bs : List Block) (P : Name → Type 0) (ms : List Bool) → ((i : ℕ) (b : Block) → slice_get bs i ≡ Some b → P (name_of b) → ⊥) → Adds bs P ms ms
-adds_none bs P ms no_one = record {
-  keeps = λ i e. e;
-  adds = λ i b p q. absurd (no_one i b p q);
-  only = λ i e. inl e;
+-- one change of the marks after another
+pub remarked_both : {P Q R : List Block → List Bool → List Bool → Type 0} {m n o : MarkedShelf} → Remarked P m n → Remarked Q n o → (P m.shelf.blocks.now m.marked n.marked → Q m.shelf.blocks.now n.marked o.marked → R m.shelf.blocks.now m.marked o.marked) → Remarked R m o
+remarked_both {P} {Q} {R} {m} {n} {o} p q join = record {
+  shelf = q.shelf ∙ p.shelf;
+  marks = join p.marks (subst (λ (s : Shelf). Q s.blocks.now n.marked o.marked) p.shelf q.marks);
 }
 
--- the mark of the one block of a name
-pub adds_one : (bs : List Block) (ok : Sound bs) (ms : List Bool) (i : ℕ) (b : Block) → slice_get bs i ≡ Some b → i < length ms → Adds bs (λ n. n ≡ name_of b) ms (set ms i true)
-adds_one bs ok ms i b p h = record {
-  keeps = λ j e. mark_set ms i j e;
-  adds = λ j c q e.
-      let at = one_place bs ok j i c b q p e in
-      subst (λ k. mark (set ms i true) k ≡ true) (sym at) (get_or-set_same ms i true false h);
-  only = λ j e. elim (cases_eq j i) [
-    | inl same ↦ inr (b, subst (λ k. slice_get bs k ≡ Some b) (sym same) p, refl)
-    | inr ne ↦ inl (sym (get_or-set_other ms i j true false ne) ∙ e)
-  ];
-}
-
--- the mark of the block of a name
-pub adds_place : (bs : List Block) (ok : Sound bs) (ms : List Bool) (n : Name) (i : ℕ) → i < length bs → find bs n ≡ slice_get bs i → length bs ≤ length ms → Adds bs (λ m. m ≡ n) ms (set ms i true)
-adds_place bs ok ms n i h f long =
+-- the mark of the block of a name turned
+pub turned_place : (bs : List Block) (ok : Sound bs) (n : Name) (on : Bool) (ms : List Bool) (i : ℕ) → i < length bs → i < length ms → find bs n ≡ slice_get bs i → Turned bs n on ms (set ms i on)
+turned_place bs ok n on ms i h l f =
     let p = nth_some bs i h in
     let q = find_some bs n p.0 (f ∙ p.1) in
-    subst (λ x. Adds bs (λ m. m ≡ x) ms (set ms i true)) q.2 (adds_one bs ok ms i p.0 p.1 (omega arith))
+    record {
+      there = λ j b at. elim (cases_eq j i) [
+        | inl e ↦
+            let at' : slice_get bs i ≡ Some b = subst (λ k. slice_get bs k ≡ Some b) e at in
+            let pb = p.1 in
+            let same_block : p.0 ≡ b = cc in
+            let named = eq_same n (name_of b) (sym q.2 ∙ ap name_of same_block) in
+            ap (mark (set ms i on)) e ∙ get_or-set_same ms i on false l ∙ sym (cond-true (same n (name_of b)) on (mark ms j) named)
+        | inr ne ↦
+            let other : same n (name_of b) ≡ false = elim (cases_Bool (same n (name_of b))) [
+              | inl t ↦ absurd (ne (one_place bs ok j i b p.0 at p.1 (sym (same_true n (name_of b) t) ∙ sym q.2)))
+              | inr f' ↦ f'
+            ] in
+            get_or-set_other ms i j on false ne ∙ sym (cond-false (same n (name_of b)) on (mark ms j) other)
+      ];
+      past = λ j le. let ne : j ≢ i = omega arith in get_or-set_other ms i j on false ne;
+    }
 
-pub adds_absent : (bs : List Block) (ms : List Bool) (n : Name) → find bs n ≡ None → Adds bs (λ m. m ≡ n) ms ms
-adds_absent bs ms n f = adds_none bs (λ m. m ≡ n) ms (λ i b p q.
-    let c = find_any bs i b p in
-    let y : find bs n ≡ Some c.0 = ap (find bs) (sym q) ∙ c.1 in
-    let z : ◌≡◌ {A = ℕ} 0 1 = cc in
-    omega arith)
+-- a name that the book lacks turns no mark
+pub turned_absent : (bs : List Block) (n : Name) (on : Bool) (ms : List Bool) → find bs n ≡ None → Turned bs n on ms ms
+turned_absent bs n on ms f = record {
+  there = λ j b p.
+      let other : same n (name_of b) ≡ false = elim (cases_Bool (same n (name_of b))) [
+        | inl t ↦
+            let c = find_any bs j b p in
+            let y : find bs n ≡ Some c.0 = ap (find bs) (same_true n (name_of b) t) ∙ c.1 in
+            let z : ◌≡◌ {A = ℕ} 0 1 = cc in
+            absurd (omega arith)
+        | inr f' ↦ f'
+      ] in
+      sym (cond-false (same n (name_of b)) on (mark ms j) other);
+  past = λ j le. refl;
+}
+
+cond_on : (b m : Bool) → m ≡ true → cond b true m ≡ true
+cond_on true m e = refl
+cond_on false m e = e
+
+cond_off : (b m : Bool) → cond b false m ≡ (m && not (b || false))
+cond_off true true = refl
+cond_off true false = refl
+cond_off false true = refl
+cond_off false false = refl
+
+-- turned on: the mark of the block of that name more
+pub turned_adds : (bs : List Block) (n : Name) (ms more : List Bool) → Turned bs n true ms more → Adds bs (λ m. m ≡ n) ms more
+turned_adds bs n ms more t = record {
+  keeps = λ i e. elim (cases_lt i (length bs)) [
+    | inl lt ↦ let b = nth_some bs i lt in t.there i b.0 b.1 ∙ cond_on (same n (name_of b.0)) (mark ms i) e
+    | inr ge ↦ t.past i ge ∙ e
+  ];
+  adds = λ i b p e. t.there i b p ∙ cond-true (same n (name_of b)) true (mark ms i) (eq_same n (name_of b) (sym e));
+  only = λ i e. elim (cases_lt i (length bs)) [
+    | inl lt ↦
+        let b = nth_some bs i lt in
+        elim (cases_Bool (same n (name_of b.0))) [
+          | inl s ↦ inr (b.0, b.1, sym (same_true n (name_of b.0) s))
+          | inr s ↦ inl (sym (t.there i b.0 b.1 ∙ cond-false (same n (name_of b.0)) true (mark ms i) s) ∙ e)
+        ]
+    | inr ge ↦ inl (sym (t.past i ge) ∙ e)
+  ];
+}
 
 -- one after the other
 pub adds_both : (bs : List Block) (P Q R : Name → Type 0) (ms more most : List Bool) → Adds bs P ms more → Adds bs Q more most → ((n : Name) → R n → P n ⊎ Q n) → ((n : Name) → P n → R n) → ((n : Name) → Q n → R n) → Adds bs R ms most
@@ -79,8 +117,8 @@ adds_both bs P Q R ms more most p q split left right = record {
 }
 
 -- the first of some names, and then the others
-pub adds_first : (bs : List Block) (n : Name) (rest : List Name) (ms more most : List Bool) → Adds bs (λ m. m ≡ n) ms more → Adds bs (Among rest) more most → Adds bs (Among (n ∷ rest)) ms most
-adds_first bs n rest ms more most p q = adds_both bs (λ m. m ≡ n) (Among rest) (Among (n ∷ rest)) ms more most p q
+pub adds_first : (bs : List Block) (n : Name) (rest : List Name) (ms more most : List Bool) → Turned bs n true ms more → Adds bs (Among rest) more most → Adds bs (Among (n ∷ rest)) ms most
+adds_first bs n rest ms more most p q = adds_both bs (λ m. m ≡ n) (Among rest) (Among (n ∷ rest)) ms more most (turned_adds bs n ms more p) q
     (λ m h. elim (or_cases (same n m) (has rest m) h) [
       | inl t ↦ inl (sym (same_true n m t))
       | inr f ↦ inr f
@@ -90,7 +128,7 @@ adds_first bs n rest ms more most p q = adds_both bs (λ m. m ≡ n) (Among rest
 
 -- no names, no marks
 pub adds_nothing : (bs : List Block) (ms : List Bool) → Adds bs (Among []) ms ms
-adds_nothing bs ms = adds_none bs (Among []) ms (λ i b p q. both_ways true (sym q) refl)
+adds_nothing bs ms = record { keeps = λ i e. e; adds = λ i b p q. absurd (false≢true q); only = λ i e. inl e }
 
 module _ (bs : List Block) (ok : Sound bs) (start : List Name) where
   -- the marks of the start alone
@@ -102,7 +140,7 @@ module _ (bs : List Block) (ok : Sound bs) (start : List Name) where
     ];
     base = λ j b p r. a.adds j b p r;
     closed = λ j s le m p k c q r.
-        let lt = nth_below bs j (Side s) p in
+        let lt = slice_get_within bs j (Side s) p in
         absurd (omega arith);
   }
 
@@ -166,57 +204,35 @@ blank zero j = refl
 blank (suc n) zero = refl
 blank (suc n) (suc j) = blank n j
 
--- the marks of listed blocks taken away, line by line
+-- the marks of listed blocks taken away, name by name
 pub without_none : (bs : List Block) (ms : List Bool) → Without bs [] ms ms
 without_none bs ms = record {
   there = λ j b p. elim (mark ms j) as (λ m. m ≡ (m && true)) [ true ↦ refl | false ↦ refl ];
   past = λ j le. refl;
 }
 
-unlisted_still : (m h e : Bool) → e ≡ false → (m && not h) ≡ (m && not (h || e))
-unlisted_still m h e off = ap (λ x. m && not x) (elim h as (λ b. b ≡ (b || false)) [ true ↦ refl | false ↦ refl ] ∙ ap (λ x. h || x) (sym off))
+either_off : (m h e : Bool) → ((m && not h) && not (e || false)) ≡ (m && not (h || e))
+either_off true true e = refl
+either_off true false true = refl
+either_off true false false = refl
+either_off false h e = refl
 
-has_off : (m h : Bool) → h ≡ true → (m && not h) ≡ false
-has_off m h on = ap (λ x. m && not x) on ∙ elim m as (λ b. (b && false) ≡ false) [ true ↦ refl | false ↦ refl ]
-
--- a line more that the book lacks takes no mark away
-pub without_absent : (bs : List Block) (L : List Name) (n : Name) (ms less : List Bool) → find bs n ≡ None → Without bs L ms less → Without bs (L ++ (n ∷ [])) ms less
-without_absent bs L n ms less f w = record {
-  there = λ j b p.
-      let other : same n (name_of b) ≡ false = elim (cases_Bool (same n (name_of b))) [
-        | inl t ↦
-            let c = find_any bs j b p in
-            let y : find bs n ≡ Some c.0 = ap (find bs) (same_true n (name_of b) t) ∙ c.1 in
-            let z : ◌≡◌ {A = ℕ} 0 1 = cc in
-            absurd (omega arith)
-        | inr f' ↦ f'
-      ] in
-      w.there j b p ∙ unlisted_still (mark ms j) (has L (name_of b)) (same n (name_of b)) other ∙ ap (λ h. mark ms j && not h) (sym (has_push L n (name_of b)));
-  past = w.past;
+-- turned off: the mark of the block of that name taken away
+turned_without : (bs : List Block) (n : Name) (ms less : List Bool) → Turned bs n false ms less → Without bs (n ∷ []) ms less
+turned_without bs n ms less t = record {
+  there = λ j b p. t.there j b p ∙ cond_off (same n (name_of b)) (mark ms j);
+  past = t.past;
 }
 
--- a line more takes the mark at its place away
-pub without_more : (bs : List Block) (ok : Sound bs) (L : List Name) (n : Name) (ms less : List Bool) (i : ℕ) → i < length bs → i < length less → find bs n ≡ slice_get bs i → Without bs L ms less → Without bs (L ++ (n ∷ [])) ms (set less i false)
-without_more bs ok L n ms less i h l f w =
-    let p = nth_some bs i h in
-    let q = find_some bs n p.0 (f ∙ p.1) in
+-- a line more
+pub without_more : (bs : List Block) (L : List Name) (n : Name) (ms less least : List Bool) → Without bs L ms less → Turned bs n false less least → Without bs (L ++ (n ∷ [])) ms least
+without_more bs L n ms less least w turned =
+    let v = turned_without bs n less least turned in
     record {
-      there = λ j b at. elim (cases_eq j i) [
-        | inl e ↦
-            let at' : slice_get bs i ≡ Some b = subst (λ k. slice_get bs k ≡ Some b) e at in
-            let pb = p.1 in
-            let same_block : p.0 ≡ b = cc in
-            let nm : n ≡ name_of b = sym q.2 ∙ ap name_of same_block in
-            let off : mark (set less i false) j ≡ false = ap (mark (set less i false)) e ∙ get_or-set_same less i false false l in
-            off ∙ sym (has_off (mark ms j) (has (L ++ (n ∷ [])) (name_of b)) (has_push L n (name_of b) ∙ or_right (has L (name_of b)) (same n (name_of b)) (eq_same n (name_of b) nm)))
-        | inr ne ↦
-            let other : same n (name_of b) ≡ false = elim (cases_Bool (same n (name_of b))) [
-              | inl t ↦ absurd (ne (one_place bs ok j i b p.0 at p.1 (sym (same_true n (name_of b) t) ∙ sym q.2)))
-              | inr f' ↦ f'
-            ] in
-            get_or-set_other less i j false false ne ∙ w.there j b at ∙ unlisted_still (mark ms j) (has L (name_of b)) (same n (name_of b)) other ∙ ap (λ x. mark ms j && not x) (sym (has_push L n (name_of b)))
-      ];
-      past = λ j le. let ne : j ≢ i = omega arith in get_or-set_other less i j false false ne ∙ w.past j le;
+      there = λ j b p.
+          v.there j b p ∙ ap (λ m. m && not (same n (name_of b) || false)) (w.there j b p)
+          ∙ either_off (mark ms j) (has L (name_of b)) (same n (name_of b)) ∙ ap (λ h. mark ms j && not h) (sym (has_push L n (name_of b)));
+      past = λ j le. v.past j le ∙ w.past j le;
     }
 
 pub without_marks : (bs : List Block) (start L : List Name) (ms less : List Bool) → Without bs L ms less → Marks bs (Reached (find bs) start) ms → Marks bs (Pending bs start L) less
@@ -230,16 +246,13 @@ without_marks bs start L ms less w m = record {
         (b.0, b.1, (subst (λ x. Reached (find bs) start (name_of x)) same_block r.2, not-true _ parts.1))
     | inr ge ↦
         let r = m.sound j (sym (w.past j ge) ∙ e) in
-        let lt = nth_below bs j r.0 r.1 in
+        let lt = slice_get_within bs j r.0 r.1 in
         absurd (omega arith)
   ];
   full = λ j b p r. w.there j b p ∙ and_from (mark ms j) (not (has L (name_of b))) (m.full j b p r.0) (not_from_false _ r.1);
 }
 
 -- the marked places, gathered
-pub gathered_none : (ms : List Bool) (w : List ℕ) → Gathered ms 0 w 0
-gathered_none ms w = record { within = λ k h. absurd (omega arith); all = λ j h m. absurd (omega arith) }
-
 pub gathered_skip : (ms : List Bool) (i : ℕ) (w : List ℕ) (n : ℕ) → mark ms i ≡ false → Gathered ms i w n → Gathered ms (i + 1) w n
 gathered_skip ms i w n off g = record {
   within = g.within;
@@ -249,18 +262,38 @@ gathered_skip ms i w n off g = record {
   ];
 }
 
-pub gathered_more : (ms : List Bool) (i : ℕ) (w : List ℕ) (n : ℕ) → i < length ms → n < length w → Gathered ms i w n → Gathered ms (i + 1) (set w n i) (n + 1)
-gathered_more ms i w n h l g = record {
-  within = λ k lt. elim (cases_eq k n) [
-    | inl e ↦ let v : get_or (set w n i) k 0 ≡ i = ap (λ x. get_or (set w n i) x 0) e ∙ get_or-set_same w n i 0 l in omega arith
-    | inr ne ↦ let v = get_or-set_other w n k i 0 ne in let r = g.within k (omega arith) in omega arith
-  ];
-  all = λ j lt m. elim (cases_eq j i) [
-    | inl e ↦ (n, omega arith, get_or-set_same w n i 0 l ∙ sym e)
-    | inr ne ↦
-        let r = g.all j (omega arith) m in
-        let rl = r.1 in
-        let nk : r.0 ≢ n = omega arith in
-        (r.0, omega arith, get_or-set_other w n r.0 i 0 nk ∙ r.2)
-  ];
-}
+pub gathered_more : (ms : List Bool) (i : ℕ) (w : List ℕ) → i < length ms → Gathered ms i w (length w) → Gathered ms (i + 1) (w ++ (i ∷ [])) (length (w ++ (i ∷ [])))
+gathered_more ms i w h g =
+    let long = length_push w i in
+    let last = get_or_push w i 0 (length w) refl in
+    record {
+      within = λ k lt. elim (cases_lt k (length w)) [
+        | inl l ↦ let e = get_or_append_left w (i ∷ []) 0 k l in let r = g.within k l in omega arith
+        | inr ge ↦ let e : k ≡ length w = omega arith in let v = ap (λ x. get_or (w ++ (i ∷ [])) x 0) e ∙ last in omega arith
+      ];
+      all = λ j lt m. elim (cases_eq j i) [
+        | inl e ↦ (length w, omega arith, last ∙ sym e)
+        | inr ne ↦ let r = g.all j (omega arith) m in let l = r.1 in (r.0, omega arith, get_or_append_left w (i ∷ []) 0 r.0 l ∙ r.2)
+      ];
+    }
+
+-- of the first i places those that are marked are gathered, and there is room for all the others
+abbrev pub Gathering : List Bool → ℕ → Bounded ℕ 4096 → Type 0
+Gathering ms i w = (bound w ≡ 4096) × (length (held w) ≡ count (take i ms)) × Gathered ms i (held w) (length (held w))
+
+pub gathering_skip : (ms : List Bool) (i : ℕ) (w : Bounded ℕ 4096) → i < length ms → mark ms i ≡ false → Gathering ms i w → Gathering ms (i + 1) w
+gathering_skip ms i w h off g = (g.0, g.1 ∙ sym (count_by_more_no (λ b. b) ms i false h off), gathered_skip ms i (held w) (length (held w)) off g.2)
+
+pub gathering_more : (ms : List Bool) (i : ℕ) (w v : Bounded ℕ 4096) → i < length ms → mark ms i ≡ true → bound v ≡ bound w → held v ≡ held w ++ (i ∷ []) → Gathering ms i w → Gathering ms (i + 1) v
+gathering_more ms i w v h on same_bound put g =
+    let longer = length_push (held w) i in
+    let counted = count_by_more_yes (λ b. b) ms i false h on in (
+      same_bound ∙ g.0,
+      ap length put ∙ omega (arith, longer, counted, g.1),
+      subst (λ x. Gathered ms (i + 1) x (length x)) (sym put) (gathered_more ms i (held w) h g.2),
+    )
+
+-- what is left after the listed ones are unmarked, on the shelf that was given
+pub left_marked : (s : Shelf) (start L : List Name) (r u : MarkedShelf) → r.shelf ≡ s → Marks s.blocks.now (Reached (find s.blocks.now) start) r.marked → Remarked (λ bs ms less. (start : List Name) → Marks bs (Reached (find bs) start) ms → Marks bs (Pending bs start L) less) r u → Marks s.blocks.now (Pending s.blocks.now start L) u.marked
+left_marked s start L r u e reached drops =
+    subst (λ (x : Shelf). Marks x.blocks.now (Reached (find x.blocks.now) start) r.marked → Marks x.blocks.now (Pending x.blocks.now start L) u.marked) e (drops.marks start) reached

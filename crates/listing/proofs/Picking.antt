@@ -1,8 +1,9 @@
 -- The first candidate is the next line.
-use Rattle.std.proofs.Common.{◌≡◌, ℕ, zero, suc, ◌+◌, ◌<◌, ◌≤◌, Bool, true, false, cond, ◌≢◌, List, [], ◌∷◌, ◌++◌, length, get_or, take, set, Some, None, Option, sym, refl, ap, ◌∙◌, subst, inl, inr, arith, length-set, length-take}
-use Rattle.std.specs.List.{slice_get}
+use Rattle.std.proofs.Common.{◌≡◌, ℕ, zero, suc, ◌+◌, ◌<◌, Bool, true, false, not, cond, ◌≢◌, List, [], ◌∷◌, ◌++◌, length, get_or, set, Some, None, Option, sym, refl, ap, ◌∙◌, subst, inl, inr, arith, length-set, Decides, MatchOption}
+use Rattle.std.specs.List.{slice_get, AllWithin, HoldsAt}
+use Rattle.std.specs.Bool.{MatchBool, then_some}
 use Rattle.std.proofs.lemmas.List.Sums.{sum_by-set, sum_by-cons}
-use Rattle.std.proofs.lemmas.List.{get_or-set_same, get_or-set_other, get_or_past, set_past, get_or-take}
+use Rattle.std.proofs.lemmas.List.{get_or-set_same, get_or-set_other, get_or_past, set_past, get_or_append_left}
 use Rattle.std.proofs.lemmas.Bool.{cases_eq, cases_lt, cases_Bool, both_ways, not_from_false, or_parts, or_from, or_cases, or_left, or_right}
 use Rattle.model.specs.declared.names.Name.{Name}
 use Rattle.model.specs.declared.blocks.SideBlock.{SideBlock}
@@ -10,7 +11,7 @@ use Rattle.model.specs.declared.blocks.Block.{Block}
 use Rattle.model.specs.declared.blocks.Block.TheVariants.{Side}
 use Rattle.model.specs.Names.{same}
 use Rattle.model.specs.Blocks.{referred, name_of}
-use Rattle.model.specs.Books.{sides_held}
+use Rattle.model.specs.Books.{genesis, sides_held}
 use Rattle.model.specs.Orders.{Before, Lawful}
 use Rattle.model.specs.Listing.{has, Ready, Reached, onward, First, Lines, done, next}
 use Rattle.model.proofs.Naming.{same_true, same_false, same_refl, has_push}
@@ -20,6 +21,7 @@ use Rattle.book.proofs.Nths.{nth_some}
 use Rattle.book.proofs.Finds.{find_some, find_any}
 use Rattle.book.proofs.Lower.{one_place, find_nth, reference_lower, book_whole}
 use Rattle.listing.specs.Marks.{mark, Marks, Pending, Marked, Clear, Candidate, Gathered, Best, count}
+use Rattle.std.proofs.lemmas.Bool.{false≢true}
 
 pub mark_below : (ms : List Bool) (i : ℕ) → mark ms i ≡ true → i < length ms
 mark_below ms i e = elim (cases_lt i (length ms)) [
@@ -48,18 +50,47 @@ module _ (bs : List Block) (ok : Sound bs) (ms : List Bool) where
       let z : ◌≡◌ {A = ℕ} 0 1 = cc in
       omega arith
 
--- whether none of some names is marked
-pub clear_more : (bs : List Block) (ms : List Bool) (n : Name) (rest : List Name) → (Marked bs ms n → ⊥) → Clear bs ms rest → Clear bs ms (n ∷ rest)
-clear_more bs ms n rest off clear m h = elim (or_cases (same n m) (has rest m) h) [
-  | inl t ↦ subst (λ x. Marked bs ms x → ⊥) (same_true n m t) off
-  | inr f ↦ clear m f
+-- a name stands among some names where it has a place
+has_at : (names : List Name) (k : ℕ) (d : Name) → k < length names → has names (get_or names k d) ≡ true
+has_at [] k d h = absurd (omega arith)
+has_at (n ∷ names) zero d h = or_left (same n n) (has names n) (same_refl n)
+has_at (n ∷ names) (suc k) d h = or_right (same n (get_or names k d)) (has names (get_or names k d)) (has_at names k d (omega arith))
+
+has_place : (names : List Name) (n : Name) → has names n ≡ true → (k : ℕ) × (k < length names) × (get_or names k n ≡ n)
+has_place [] n h = absurd (false≢true h)
+has_place (m ∷ names) n h = elim (or_cases (same m n) (has names n) h) [
+  | inl t ↦ (0, omega arith, same_true m n t)
+  | inr f ↦ let r = has_place names n f in let l = r.1 in (suc r.0, omega arith, r.2)
 ]
 
-pub clear_rest : (bs : List Block) (ms : List Bool) (n : Name) (rest : List Name) → Clear bs ms (n ∷ rest) → Clear bs ms rest
-clear_rest bs ms n rest clear m h = clear m (or_right (same n m) (has rest m) h)
+-- whether none of some names is marked
+pub decides_clear : (bs : List Block) (ms : List Bool) (names : List Name) (r : Bool) → MatchBool r ((k : ℕ) × (k < length names) × HoldsAt (Marked bs ms) names k) (AllWithin (λ n. Marked bs ms n → ⊥) names 0 (length names)) → Decides (not r) (Clear bs ms names)
+decides_clear bs ms names true h = ((λ f. absurd (false≢true f)), λ clear. absurd (clear (get_or names h.0 genesis) (has_at names h.0 genesis h.1) (h.2 genesis)))
+decides_clear bs ms names false h = (
+  (λ t n among m. let at = has_place names n among in h at.0 n (omega arith) at.1 (subst (Marked bs ms) (sym at.2) m)),
+  λ clear. refl,
+)
 
-pub clear_first : (bs : List Block) (ms : List Bool) (n : Name) (rest : List Name) → Clear bs ms (n ∷ rest) → Marked bs ms n → ⊥
-clear_first bs ms n rest clear = clear n (or_left (same n n) (has rest n) (same_refl n))
+-- the block at a place, if it is marked and refers to no marked one
+pub candidate_unmarked : (bs : List Block) (ms : List Bool) (i : ℕ) (s : SideBlock) → mark ms i ≡ false → MatchOption (then_some (mark ms i) s) ((t : SideBlock) → Candidate bs ms i t → ⊥) (Candidate bs ms i)
+candidate_unmarked bs ms i s off =
+    subst (λ r. MatchOption (then_some r s) ((t : SideBlock) → Candidate bs ms i t → ⊥) (Candidate bs ms i)) (sym off) (λ t c. both_ways (mark ms i) off c.0)
+
+pub candidate_clear : (bs : List Block) (ms : List Bool) (i : ℕ) (s : SideBlock) → slice_get bs i ≡ Some (Side s) → mark ms i ≡ true → (r : Bool) → Decides r (Clear bs ms (referred s.references)) → MatchOption (then_some r s) ((t : SideBlock) → Candidate bs ms i t → ⊥) (Candidate bs ms i)
+candidate_clear bs ms i s at on true h = (on, at, h.0 refl)
+candidate_clear bs ms i s at on false h =
+    λ t c.
+    let p = c.1 in
+    let e : t ≡ s = cc in
+    both_ways false refl (h.1 (subst (λ x. Clear bs ms (referred x.references)) e c.2))
+
+-- more places behind change nothing among the first
+pub best_longer : (before : Before) (bs : List Block) (ms : List Bool) (w more : List ℕ) (r : Option (ℕ × SideBlock)) → Best before bs ms w (length w) r → Best before bs ms (w ++ more) (length w) r
+best_longer before bs ms w more None h = λ k t lt c. h k t lt (subst (λ j. Candidate bs ms j t) (get_or_append_left w more 0 k lt) c)
+best_longer before bs ms w more (Some p) h = (
+  h.0,
+  λ k t lt c ne. let e = get_or_append_left w more 0 k lt in h.1 k t lt (subst (λ j. Candidate bs ms j t) e c) (λ at. ne (e ∙ at)),
+)
 
 -- the best of one place more
 module _ (before : Before) (law : Lawful before) (bs : List Block) (ok : Sound bs) (ms : List Bool) (w : List ℕ) where
@@ -76,30 +107,9 @@ module _ (before : Before) (law : Lawful before) (bs : List Block) (ok : Sound b
     ],
   )
 
-  pub best_first : (i place : ℕ) (s : SideBlock) → get_or w i 0 ≡ place → Best before bs ms w i None → Candidate bs ms place s → Best before bs ms w (i + 1) (Some (place, s))
-  best_first i place s at h cand = (
-    cand,
-    λ k t lt c ne. elim (cases_eq k i) [
-      | inl e ↦ absurd (ne (ap (λ x. get_or w x 0) e ∙ at))
-      | inr ni ↦ absurd (h k t (omega arith) c)
-    ],
-  )
-
   -- the block at a place is one
   one_block : (i : ℕ) (s t : SideBlock) → slice_get bs i ≡ Some (Side s) → slice_get bs i ≡ Some (Side t) → s ≡ t
   one_block i s t p q = cc
-
-  pub best_takes : (i place b : ℕ) (s f : SideBlock) → get_or w i 0 ≡ place → Best before bs ms w i (Some (b, f)) → Candidate bs ms place s → before s f ≡ true → Best before bs ms w (i + 1) (Some (place, s))
-  best_takes i place b s f at h cand e = (
-    cand,
-    λ k t lt c ne. elim (cases_eq k i) [
-      | inl ki ↦ absurd (ne (ap (λ x. get_or w x 0) ki ∙ at))
-      | inr ni ↦ elim (cases_eq (get_or w k 0) b) [
-        | inl kb ↦ subst (λ x. before s x ≡ true) (one_block b f t h.0.1 (subst (λ j. slice_get bs j ≡ Some (Side t)) kb c.1)) e
-        | inr nb ↦ law.chain s f t e (h.1 k t (omega arith) c nb)
-      ]
-    ],
-  )
 
   pub best_keeps : (i place b : ℕ) (s f : SideBlock) → get_or w i 0 ≡ place → Best before bs ms w i (Some (b, f)) → Candidate bs ms place s → before s f ≡ false → Best before bs ms w (i + 1) (Some (b, f))
   best_keeps i place b s f at h cand e = (
@@ -253,13 +263,4 @@ gathered_drop ms i w n g =
         ]
         | inr ne ↦ sym (get_or-set_other ms i j false false ne) ∙ m
       ]);
-    }
-
--- the places that wait, without those behind
-pub gathered_front : (ms : List Bool) (w : List ℕ) (n : ℕ) → n ≤ length w → Gathered ms (length ms) w n → Gathered ms (length ms) (take n w) (length (take n w))
-gathered_front ms w n h g =
-    let long : length (take n w) ≡ n = simp length-take (omega arith) in
-    record {
-      within = λ k lt. let e = get_or-take n w k 0 (omega arith) in let r = g.within k (omega arith) in omega arith;
-      all = λ j lt m. let r = g.all j lt m in let l = r.1 in (r.0, omega arith, get_or-take n w r.0 0 l ∙ r.2);
     }

@@ -1,8 +1,11 @@
 -- A walk down the parent chain, and the last listed block.
-use Rattle.std.proofs.Common.{◌≡◌, ℕ, suc, ◌+◌, ◌<◌, true, false, cond, eqb, List, [], ◌∷◌, ◌++◌, length, get_or, take, Some, None, Option, sym, refl, ap, ◌∙◌, subst, inl, inr, arith, MatchOption}
-use Rattle.std.proofs.lemmas.List.Sums.{fold_more}
-use Rattle.std.proofs.lemmas.List.{length_push, get_or_push, take_all}
-use Rattle.std.proofs.lemmas.Bool.{eqb-true, cond-true, cond-false, cases_Bool, and_parts}
+use Rattle.std.proofs.Common.{◌≡◌, ℕ, suc, ◌<◌, Bool, true, false, cond, eqb, List, [], ◌∷◌, ◌++◌, reverse, Some, None, Option, sym, refl, ap, ◌∙◌, subst, inl, inr, arith, MatchOption}
+use Rattle.std.specs.List.{find, fold}
+use Rattle.std.specs.Option.{is_some, option_or, unwrap_or}
+use Rattle.std.proofs.lemmas.List.Sums.{fold-append}
+use Rattle.std.proofs.lemmas.List.Folds.{find-append}
+use Rattle.std.proofs.lemmas.Grind.{reverse_onto}
+use Rattle.std.proofs.lemmas.Bool.{eqb-true, cond-false, cases_Bool, and_parts}
 use Rattle.model.specs.declared.names.Name.{Name}
 use Rattle.model.specs.declared.blocks.SideBlock.{SideBlock}
 use Rattle.model.specs.declared.blocks.BackboneBlock.{BackboneBlock}
@@ -14,6 +17,7 @@ use Rattle.model.specs.Books.{Book, Whole, genesis, is_backbone, of_view, sides_
 use Rattle.model.specs.Chains.{OnChain, here, up, last_listed}
 use Rattle.model.proofs.Naming.{same_true}
 use Rattle.listing.specs.Steps.{Walked, backbone_of}
+use Rattle.model.proofs.Clash.{clash}
 
 -- what is on the chain, and is not its top, is on the chain of the parent
 pub chain_step : (K : Book) (t n : Name) (b : BackboneBlock) → OnChain K t n → (t ≡ n → ⊥) → K t ≡ Some (Backbone b) → OnChain K b.parent.name n
@@ -30,23 +34,23 @@ chain_more K b (up c p rest) e = up c p (chain_more K b rest e)
 -- a name that the book lacks has only itself on its chain
 pub chain_none : (K : Book) (t n : Name) → OnChain K t n → (t ≡ n → ⊥) → K t ≡ None → ⊥
 chain_none K t n (here {n = x}) ne e = ne refl
-chain_none K t n (up {t = x} {n = y} c p rest) ne e = let z : ◌≡◌ {A = ℕ} 0 1 = cc in omega arith
+chain_none K t n (up {t = x} {n = y} c p rest) ne e = clash cc
 
 pub chain_side : (K : Book) (t n : Name) (s : SideBlock) → OnChain K t n → (t ≡ n → ⊥) → K t ≡ Some (Side s) → ⊥
 chain_side K t n s (here {n = x}) ne e = ne refl
-chain_side K t n s (up {t = x} {n = y} c p rest) ne e = let z : ◌≡◌ {A = ℕ} 0 1 = cc in omega arith
+chain_side K t n s (up {t = x} {n = y} c p rest) ne e = clash cc
 
 -- what is read there
 pub backbone_there : (o : Option Block) (b : BackboneBlock) → backbone_of o ≡ Some b → o ≡ Some (Backbone b)
-backbone_there None b e = let z : ◌≡◌ {A = ℕ} 0 1 = cc in absurd (omega arith)
-backbone_there (Some (Side s)) b e = let z : ◌≡◌ {A = ℕ} 0 1 = cc in absurd (omega arith)
+backbone_there None b e = clash cc
+backbone_there (Some (Side s)) b e = clash cc
 backbone_there (Some (Backbone c)) b e = cc
 
 -- a chain from a name with no backbone block has only the name itself
 chain_ends : (K : Book) (t n : Name) (o : Option Block) → K t ≡ o → backbone_of o ≡ None → OnChain K t n → (t ≡ n → ⊥) → ⊥
 chain_ends K t n None e none on ne = chain_none K t n on ne e
 chain_ends K t n (Some (Side s)) e none on ne = chain_side K t n s on ne e
-chain_ends K t n (Some (Backbone b)) e none on ne = let z : ◌≡◌ {A = ℕ} 0 1 = cc in omega arith
+chain_ends K t n (Some (Backbone b)) e none on ne = clash cc
 
 -- the walk has come down to a block, and the last listed one, if it is on the chain, is below
 abbrev pub Walking : Book → Name → Name → Option BackboneBlock → Type 0
@@ -102,29 +106,29 @@ module _ (K : Book) (w : Whole K) where
       let l = w.lower b.name b held in
       omega arith
 
--- the last listed block, by one line more
-pub backbone_yes : (o : Option Block) (b : BackboneBlock) → Some b ≡ backbone_of o → is_backbone o ≡ true
-backbone_yes o b e = ap is_backbone (backbone_there o b (sym e))
+-- whether a backbone block is read there
+backbone_there_is : (o : Option Block) → is_some (backbone_of o) ≡ is_backbone o
+backbone_there_is None = refl
+backbone_there_is (Some (Side s)) = refl
+backbone_there_is (Some (Backbone b)) = refl
 
-pub backbone_no : (o : Option Block) → None ≡ backbone_of o → is_backbone o ≡ false
-backbone_no None e = refl
-backbone_no (Some (Side s)) e = refl
-backbone_no (Some (Backbone b)) e = let z : ◌≡◌ {A = ℕ} 0 1 = cc in absurd (omega arith)
+last_of_one : (b : Bool) (n first : Name) (o : Option Name) → unwrap_or (option_or o (cond b (Some n) None)) first ≡ unwrap_or o (cond b n first)
+last_of_one true n first None = refl
+last_of_one false n first None = refl
+last_of_one b n first (Some m) = refl
 
-module _ (K : Book) (L : List Name) (i : ℕ) (d : Name) (lt : i < length L) where
-  last_more : last_listed K (take (i + 1) L) ≡ cond (is_backbone (K (get_or L i d))) (get_or L i d) (last_listed K (take i L))
-  last_more = fold_more (λ last n. cond (is_backbone (K n)) n last) genesis L i d lt
-
-  pub last_here : is_backbone (K (get_or L i d)) ≡ true → last_listed K (take (i + 1) L) ≡ get_or L i d
-  last_here e = last_more ∙ cond-true (is_backbone (K (get_or L i d))) (get_or L i d) (last_listed K (take i L)) e
-
-  pub last_below : is_backbone (K (get_or L i d)) ≡ false → last_listed K (take (i + 1) L) ≡ last_listed K (take i L)
-  last_below e = last_more ∙ cond-false (is_backbone (K (get_or L i d))) (get_or L i d) (last_listed K (take i L)) e
+-- the last of some lines that is a backbone block is the first of them from behind
+pub last_found : (K : Book) (L : List Name) (first : Name) → unwrap_or (find (λ n. is_some (backbone_of (K n))) (reverse L)) first ≡ fold (λ last n. cond (is_backbone (K n)) n last) first L
+last_found K [] first = refl
+last_found K (n ∷ L) first =
+    let t = λ (m : Name). is_some (backbone_of (K m)) in
+    let turned : reverse (n ∷ L) ≡ reverse L ++ (n ∷ []) = reverse_onto L n [] in
+    ap (λ l. unwrap_or (find t l) first) turned ∙ ap (λ o. unwrap_or o first) (find-append t (reverse L) (n ∷ []))
+    ∙ last_of_one (t n) n first (find t (reverse L)) ∙ ap (λ b. unwrap_or (find t (reverse L)) (cond b n first)) (backbone_there_is (K n))
+    ∙ last_found K L (cond (is_backbone (K n)) n first)
 
 -- a backbone block that is listed is the last one listed
 pub last_push : (K : Book) (L : List Name) (b : BackboneBlock) → K b.name ≡ Some (Backbone b) → last_listed K (L ++ (b.name ∷ [])) ≡ b.name
 last_push K L b held =
-    let lt : length L < length (L ++ (b.name ∷ [])) = omega (arith, length_push L b.name) in
-    let at : get_or (L ++ (b.name ∷ [])) (length L) genesis ≡ b.name = get_or_push L b.name genesis (length L) refl in
-    ap (last_listed K) (sym (take_all (length L + 1) (L ++ (b.name ∷ [])) (omega (arith, length_push L b.name))))
-    ∙ last_here K (L ++ (b.name ∷ [])) (length L) genesis lt (ap (λ n. is_backbone (K n)) at ∙ ap is_backbone held) ∙ at
+    let step = λ (last n : Name). cond (is_backbone (K n)) n last in
+    fold-append step genesis L (b.name ∷ []) ∙ ap (λ o. cond (is_backbone o) b.name (fold step genesis L)) held

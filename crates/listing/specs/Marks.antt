@@ -1,14 +1,16 @@
 -- Marks beside the places of a book's blocks, and the next line among the marked ones: inner matters of listing a block. Assumes nothing.
-use Rattle.std.specs.Prelude.{◌≡◌, ℕ, ◌<◌, ◌≤◌, Bool, true, false, not, ◌&&◌, ◌⊎◌, List, length, Some, count_by, Option, MatchOption, ◌≢◌, slice_index, slice_index_or}
+use Rattle.std.specs.Prelude.{◌≡◌, ℕ, ◌<◌, ◌≤◌, Bool, true, false, cond, not, ◌&&◌, ◌⊎◌, List, length, Some, count_by, Option, MatchOption, ◌≢◌, slice_index, slice_index_or}
 use Rattle.std.specs.List.{slice_get}
 use Rattle.model.specs.declared.names.Name.{Name}
 use Rattle.model.specs.declared.blocks.SideBlock.{SideBlock}
 use Rattle.model.specs.declared.blocks.Block.{Block}
 use Rattle.model.specs.declared.blocks.Block.TheVariants.{Side}
+use Rattle.model.specs.Names.{same}
 use Rattle.model.specs.Blocks.{referred, name_of}
 use Rattle.model.specs.Orders.{Before}
 use Rattle.model.specs.Listing.{has, Reached}
 use Rattle.book.specs.Places.{find}
+use Rattle.listing.specs.declared.marks.MarkedShelf.{MarkedShelf}
 
 abbrev pub mark : List Bool → ℕ → Bool
 mark ms i = slice_index_or ms i false
@@ -17,10 +19,20 @@ mark ms i = slice_index_or ms i false
 abbrev pub count : List Bool → ℕ
 count ms = count_by (λ b. b) ms
 
+-- the shelf is the same, and R holds of its blocks and of the marks before and after
+pub record Remarked (R : List Block → List Bool → List Bool → Type 0) (m after : MarkedShelf) : Type 0 where
+  pub shelf : after.shelf ≡ m.shelf
+  pub marks : R m.shelf.blocks.now m.marked after.marked
+
 -- exactly the places of the blocks whose name is in P are marked
 pub record Marks (bs : List Block) (P : Name → Type 0) (ms : List Bool) : Type 0 where
   pub sound : (i : ℕ) → mark ms i ≡ true → (b : Block) × (slice_get bs i ≡ Some b) × P (name_of b)
   pub full : (i : ℕ) (b : Block) → slice_get bs i ≡ Some b → P (name_of b) → mark ms i ≡ true
+
+-- after is ms but at the block of the name n, whose mark is now as `on` says
+pub record Turned (bs : List Block) (n : Name) (on : Bool) (ms after : List Bool) : Type 0 where
+  pub there : (i : ℕ) (b : Block) → slice_get bs i ≡ Some b → mark after i ≡ cond (same n (name_of b)) on (mark ms i)
+  pub past : (i : ℕ) → length bs ≤ i → mark after i ≡ mark ms i
 
 -- more has the marks of ms, and marks the blocks whose name is in P, and no other
 pub record Adds (bs : List Block) (P : Name → Type 0) (ms more : List Bool) : Type 0 where

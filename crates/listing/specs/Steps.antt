@@ -1,5 +1,5 @@
 -- What listing one backbone block leaves, and what one line does to a lookup: inner steps. Assumes nothing.
-use Rattle.std.specs.Prelude.{◌≡◌, ℕ, ◌+◌, ◌<◌, List, [], ◌∷◌, ◌++◌, length, Some, None, Option, MatchOption}
+use Rattle.std.specs.Prelude.{◌≡◌, ℕ, ◌+◌, ◌<◌, List, [], ◌∷◌, ◌++◌, length, Some, None, Ok, Err, Option, Result, MatchOption}
 use Rattle.model.specs.declared.names.Name.{Name}
 use Rattle.model.specs.declared.blocks.BackboneBlock.{BackboneBlock}
 use Rattle.model.specs.declared.blocks.Block.{Block}
@@ -10,6 +10,8 @@ use Rattle.model.specs.Orders.{Before}
 use Rattle.model.specs.Listing.{Lines}
 use Rattle.model.specs.Lookups.{entry_effect}
 use Rattle.model.specs.declared.answers.Binding.{Binding}
+use Rattle.model.specs.declared.refusals.Refusal.{Refusal}
+use Rattle.model.specs.declared.refusals.Refusal.TheVariants.{ListFull}
 use Rattle.model.specs.Chains.{OnChain, Next}
 
 -- the lines of side blocks that are added to L
@@ -17,10 +19,9 @@ abbrev pub Listed : Before → Book → List Name → List Name → List Name �
 Listed before K start L after = (xs : List Name) × Lines before K start L xs × (after ≡ L ++ xs)
 
 -- the block is listed after L, or there are too few places and nothing changes
-abbrev pub BlockListed : Before → Book → BackboneBlock → ℕ → List Name → List Name → Option ℕ → Type 0
-BlockListed before K b places L after r = MatchOption r
-    ((after ≡ L) × ((xs : List Name) → Lines before K (referred b.references) L xs → places < length L + (length xs + 1)))
-    (λ n. (xs : List Name) × Lines before K (referred b.references) L xs × (after ≡ L ++ (xs ++ (b.name ∷ []))) × (n ≡ length xs + 1))
+abbrev pub BlockListed : Before → Book → BackboneBlock → ℕ → List Name → List Name → Result ℕ Refusal → Type 0
+BlockListed before K b places L after (Ok n) = (xs : List Name) × Lines before K (referred b.references) L xs × (after ≡ L ++ (xs ++ (b.name ∷ []))) × (n ≡ length xs + 1)
+BlockListed before K b places L after (Err e) = (e ≡ ListFull) × (after ≡ L) × ((xs : List Name) → Lines before K (referred b.references) L xs → places < length L + (length xs + 1))
 
 -- the backbone block there, if it is one
 abbrev pub backbone_of : Option Block → Option BackboneBlock

@@ -12,21 +12,21 @@ use model::{BackboneBlock, Block, Name};
 fn backbone(shelf: Shelf<'_>, name: Name) -> Option<BackboneBlock>
     ensures { result ≡ backbone_of (find shelf.entry.blocks.now name) }
 {
-    match shelf.find(name) {
-        Some(Block::Backbone(block)) => Some(block),
-        Some(Block::Side(_)) => None,
-        None => None,
+    match shelf.find(name)? {
+        Block::Backbone(block) => Some(block),
+        Block::Side(_) => None,
     }
 }
 
 // The block on the target's chain whose parent is the last listed one.
+// A while let: std counts successors as endless, and a take that ends it would need a bound on the chain's length.
 pub(crate) fn walk(shelf: Shelf<'_>, target: Name, last: Name) -> Option<BackboneBlock>
     requires { same target last ≡ false }
     ensures { Walked (find shelf.entry.blocks.now) target last result }
 {
     let mut at = backbone(shelf, target);
     while let Some(block) = at {
-        if block.parent.name.is(last) {
+        if block.parent.name == last {
             return Some(block);
         }
         at = backbone(shelf, block.parent.name);
@@ -38,10 +38,10 @@ pub(crate) fn walk(shelf: Shelf<'_>, target: Name, last: Name) -> Option<Backbon
 pub(crate) fn last_listed(shelf: Shelf<'_>, lines: &[Name]) -> Name
     ensures { result ≡ last_listed (find shelf.entry.blocks.now) lines.now }
 {
-    for i in (0..lines.len()).rev() {
-        if let Some(_) = backbone(shelf, lines[i]) {
-            return lines[i];
-        }
-    }
-    Name::GENESIS
+    lines
+        .iter()
+        .rev()
+        .find(|line| backbone(shelf, **line).is_some())
+        .copied()
+        .unwrap_or(Name::GENESIS)
 }

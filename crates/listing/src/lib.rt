@@ -11,8 +11,8 @@ ghost use Rattle.book.specs.Meaning.{book_of};
 mod chain;
 mod lines;
 mod lookups;
+mod marks;
 mod pick;
-mod reach;
 
 use book::Book;
 use chain::{last_listed, walk};
@@ -22,27 +22,26 @@ use model::{Name, Refusal};
 use orders::Order;
 use places::Bounded;
 
-// Lists the block above the last listed one on the target's chain.
+/// The lines of a list, oldest first.
+pub type Lines<'a> = Bounded<'a, Name, 4096>;
+
+// Lists the block above the last listed one on the target's chain. It stands apart from `extend`, whose proof adds the theorems to this answer.
 fn step<O: Order>(
     book: &Book<'_>,
     target: Name,
-    lines: &mut Bounded<'_, Name, 4096>,
+    lines: &mut Lines<'_>,
 ) -> Result<(usize, u32), Refusal>
     ensures answer { Extended O.Order.precedes (book_of book.now) target (bound lines.old) (held lines.old) (held lines.new) result }
     ensures bound { bound lines.new ≡ bound lines.old }
 {
     let shelf = book.shelf();
     let last = last_listed(shelf, lines.as_slice());
-    if target.is(last) {
+    if target == last {
         return Ok((0, 0));
     }
-    let Some(block) = walk(shelf, target, last) else {
-        return Err(Refusal::OffChain);
-    };
-    match list_block::<O>(shelf, block, lines) {
-        Some(count) => Ok((count, block.view)),
-        None => Err(Refusal::ListFull),
-    }
+    let block = walk(shelf, target, last).ok_or(Refusal::OffChain)?;
+    let count = list_block::<O>(shelf, block, lines)?;
+    Ok((count, block.view))
 }
 
 /// Appends one backbone block's lines: of the block on the target's parent chain whose parent is the last listed backbone block.
@@ -52,10 +51,11 @@ fn step<O: Order>(
 ///
 /// A list that is the listing of a chain stays one. The listing of a chain is unique and depends on the blocks alone,
 /// a book that holds more blocks has the same, and it begins the listing of every chain above it.
+// That the bound stays is a clause of each function that is lent the list: another could be put in its place, so no type says it.
 pub fn extend<O: Order>(
     book: &Book<'_>,
     target: Name,
-    lines: &mut Bounded<'_, Name, 4096>,
+    lines: &mut Lines<'_>,
 ) -> Result<(usize, u32), Refusal>
     ensures answer { Extended O.Order.precedes (book_of book.now) target (bound lines.old) (held lines.old) (held lines.new) result }
     ensures bound { bound lines.new ≡ bound lines.old }

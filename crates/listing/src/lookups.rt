@@ -1,5 +1,5 @@
 //! What holds for a sonde after the lines of a list.
-ghost use Rattle.std.specs.Prelude.{◌≡◌, ◌&&◌, nat_lt};
+ghost use Rattle.std.specs.Prelude.{◌≡◌};
 ghost use Rattle.model.specs.Lookups.{entry_effect, entries, holding, lookup_questions, EqualLookups};
 ghost use Rattle.model.specs.Examples.{WorkedLookups};
 ghost use Rattle.model.specs.Questions.{Answered};
@@ -8,10 +8,10 @@ ghost use Rattle.book.specs.Places.{find};
 ghost use Rattle.book.specs.Meaning.{book_of};
 ghost use Rattle.listing.specs.Steps.{line_effect};
 
+use crate::Lines;
 use book::Book;
 use book::shelf::Shelf;
-use model::{Binding, Block, Entry, Name, Refusal};
-use places::Bounded;
+use model::{Binding, Block, Entry, Name, Refusal, view_fits};
 
 // A bind takes effect when nothing holds, a release when its flight holds.
 fn apply(sonde: u32, held: Option<Binding>, entry: Entry) -> Option<Binding>
@@ -25,44 +25,18 @@ fn apply(sonde: u32, held: Option<Binding>, entry: Entry) -> Option<Binding>
                 certificate,
                 flight,
             },
-        ) => {
-            if bound == sonde {
-                Some(Binding {
-                    certificate,
-                    flight,
-                })
-            } else {
-                None
-            }
-        }
+        ) if bound == sonde => Some(Binding {
+            certificate,
+            flight,
+        }),
         (
             Some(binding),
             Entry::Release {
                 sonde: released,
                 flight,
             },
-        ) => {
-            if released == sonde && flight == binding.flight {
-                None
-            } else {
-                Some(binding)
-            }
-        }
-        (
-            None,
-            Entry::Release {
-                sonde: _,
-                flight: _,
-            },
-        ) => None,
-        (
-            Some(binding),
-            Entry::Bind {
-                sonde: _,
-                certificate: _,
-                flight: _,
-            },
-        ) => Some(binding),
+        ) if released == sonde && flight == binding.flight => None,
+        _ => held,
     }
 }
 
@@ -72,8 +46,7 @@ fn follow(shelf: Shelf<'_>, sonde: u32, held: Option<Binding>, line: Name) -> Op
 {
     match shelf.find(line) {
         Some(Block::Side(side)) => apply(sonde, held, side.entry),
-        Some(Block::Backbone(_)) => held,
-        None => held,
+        _ => held,
     }
 }
 
@@ -81,32 +54,19 @@ fn follow(shelf: Shelf<'_>, sonde: u32, held: Option<Binding>, line: Name) -> Op
 fn follow_all(shelf: Shelf<'_>, sonde: u32, lines: &[Name]) -> Option<Binding>
     ensures { result ≡ holding sonde (entries (find shelf.entry.blocks.now) lines.now) }
 {
-    let mut held = None;
-    for line in lines {
-        held = follow(shelf, sonde, held, *line);
-    }
-    held
-}
-
-// Whether a sonde can have this number.
-fn is_sonde(number: u32) -> bool
-    ensures { result ≡ (nat_lt 0 number && nat_lt number 268435456) }
-{
-    0 < number && number < 268435456
+    lines
+        .iter()
+        .fold(None, |held, line| follow(shelf, sonde, held, *line))
 }
 
 /// The certificate and flight that hold for the sonde after the lines of the list, if any do; `OutOfRange` (3) for a number that no sonde has.
 /// Lines that the book does not hold are passed over. Equal lists give equal answers.
-pub fn lookup(
-    book: &Book<'_>,
-    lines: &Bounded<'_, Name, 4096>,
-    sonde: u32,
-) -> Result<Option<Binding>, Refusal>
+pub fn lookup(book: &Book<'_>, lines: &Lines<'_>, sonde: u32) -> Result<Option<Binding>, Refusal>
     ensures answer { Answered (lookup_questions sonde) (held lines.now) (held lines.now) (λ b. b ≡ holding sonde (entries (book_of book.now) (held lines.now))) result }
     ensures equal { EqualLookups }
     ensures worked { WorkedLookups }
 {
-    if !is_sonde(sonde) {
+    if !view_fits(sonde) {
         return Err(Refusal::OutOfRange);
     }
     Ok(follow_all(book.shelf(), sonde, lines.as_slice()))

@@ -12,21 +12,14 @@ ghost use Rattle.profile.specs.Uses.{use_of};
 pub mod uses;
 
 use book::Book;
-use listing::lookup;
-use model::{Name, Refusal};
-use places::Bounded;
+use listing::{Lines, lookup};
+use model::Refusal;
 use uses::Use;
 
 /// What to do with the sonde's values: convert them with the certificate that holds, for its flight, or pass them over where none holds;
 /// `OutOfRange` (3) for a number that no sonde has.
-pub fn use_of(book: &Book<'_>, lines: &Bounded<'_, Name, 4096>, sonde: u32) -> Result<Use, Refusal>
+pub fn use_of(book: &Book<'_>, lines: &Lines<'_>, sonde: u32) -> Result<Use, Refusal>
     ensures { Answered (lookup_questions sonde) (held lines.now) (held lines.now) (λ u. u ≡ use_of (holding sonde (entries (book_of book.now) (held lines.now)))) result }
 {
-    match lookup(book, lines, sonde)? {
-        Some(binding) => Ok(Use::Convert {
-            certificate: binding.certificate,
-            flight: binding.flight,
-        }),
-        None => Ok(Use::PassOver),
-    }
+    Ok(Use::from(lookup(book, lines, sonde)?))
 }

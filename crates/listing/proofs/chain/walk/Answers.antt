@@ -5,8 +5,8 @@ use Rattle.book.proofs.Lower.{book_whole}
 use Rattle.listing.proofs.Walks.{Walking, height, walk_start, walk_on, walk_found, walk_lower}
 use Rattle.listing.proofs.chain.walk.Goals as goal
 
-pub returns-then-is : goal.returns-then-is
-returns-then-is c =
+pub returns-then-eq : goal.returns-then-eq
+returns-then-eq c =
     let s = c.args.shelf in
     let K = find s.blocks.now in
     let w = book_whole s.blocks.now s.sound in
@@ -14,7 +14,7 @@ returns-then-is c =
     let l = c.args.last in
     let first = walk_start K w t l c.backbone-at.result c.backbone-at.ensures (same_false t l c.requires) in
     let at = subst (Walking K t l) c.in-Some.is (c.loop-at.invariant t first) in
-    walk_found K w t l c.in-Some.block at (same_true c.in-Some.block.parent.name l (sym c.is.ensures ∙ c.if-is.true))
+    walk_found K w t l c.in-Some.block at (same_true c.in-Some.block.parent.name l (sym c.eq.ensures ∙ c.if-eq.true))
 
 pub loop-at-smaller : goal.loop-at-smaller
 loop-at-smaller c =
@@ -36,7 +36,7 @@ loop-at-preserved c t first =
     let l = c.args.last in
     let b = c.in-Some.block in
     let at = subst (Walking K t l) c.in-Some.is (c.loop-at.invariant t first) in
-    walk_on K w t l b c.backbone-at-in-Some.result at (same_false b.parent.name l (sym c.is.ensures ∙ c.if-is.false)) c.backbone-at-in-Some.ensures
+    walk_on K w t l b c.backbone-at-in-Some.result at (same_false b.parent.name l (sym c.eq.ensures ∙ c.if-eq.false)) c.backbone-at-in-Some.ensures
 
 pub returns : goal.returns
 returns c =

@@ -7,9 +7,10 @@ use Rattle.listing.proofs.lines.append.Given as goal
 
 abbrev pub invariant-loop-place : goal.invariant-loop-place
 invariant-loop-place g l =
-    (length (held l.lines) + count l.marks ≡ length (held l.initial.lines) + count l.initial.marks)
-    × (bound l.lines ≡ bound l.initial.lines) × Gathered l.marks (length l.marks) l.waiting (length l.waiting)
-    × ((start : List Name) → Marks l.shelf.blocks.now (Pending l.shelf.blocks.now start (held l.initial.lines)) l.initial.marks → Sofar g.O.Order.precedes l.shelf.blocks.now start (held l.initial.lines) (held l.lines) l.marks)
+    let first = l.initial.marks in
+    (length (held l.lines) + count l.marks.marked ≡ length (held l.initial.lines) + count first.marked)
+    × (bound l.lines ≡ bound l.initial.lines) × Gathered l.marks.marked (length l.marks.marked) l.waiting (length l.waiting) × (l.marks.shelf ≡ first.shelf)
+    × ((start : List Name) → Marks first.shelf.blocks.now (Pending first.shelf.blocks.now start (held l.initial.lines)) first.marked → Sofar g.O.Order.precedes l.marks.shelf.blocks.now start (held l.initial.lines) (held l.lines) l.marks.marked)
 
 abbrev pub decreases-loop-place : goal.decreases-loop-place
-decreases-loop-place g l = count l.marks
+decreases-loop-place g l = count l.marks.marked
