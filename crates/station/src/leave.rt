@@ -2,32 +2,24 @@ ghost use Rattle.model.specs.Questions.{Judged};
 ghost use Rattle.model.specs.Passing.{leave_questions, LeaveCall};
 ghost use Rattle.station.specs.Meaning.{desk_of};
 
+use crate::outbox::Outbox;
 use crate::stations::Station;
 use broadcast::{Broadcast, Observe};
-use model::{Refusal, SecondVote, Sent};
-use places::Bounded;
-
-// The last view that there is.
-const LAST_VIEW: u32 = 0xfff_ffff;
+use model::{LAST_VIEW, Refusal, SecondVote, Sent};
 
 impl<B: Broadcast> Station<B> {
-    fn judge_leave(&self, out: &Bounded<'_, Sent, 32>) -> Result<(), Refusal>
-        ensures { Judged (leave_questions (desk_of B.Observe self.now out.now)) (λ _. Unit {0}) result }
+    fn judge_leave(&self, out: &Outbox<'_>) -> Result<(), Refusal>
+        ensures { Judged (leave_questions (desk_of self.now out.now)) (λ _. Unit {0}) result }
     {
         if !out.has_room(2) {
             return Err(Refusal::NoPlaces);
         }
-        let shut = match self.cast.second() {
-            SecondVote::Shut => true,
-            SecondVote::Given(_) => false,
-            SecondVote::Waiting => false,
-        };
         let view = self.cast.view();
         let height = self.state.highest.view;
-        if !(shut || view <= height) {
+        if self.cast.second() != SecondVote::Shut && height < view {
             return Err(Refusal::VoteOpen);
         }
-        if view >= LAST_VIEW || height >= LAST_VIEW {
+        if view.max(height) >= LAST_VIEW {
             return Err(Refusal::LastView);
         }
         Ok(())
@@ -35,8 +27,8 @@ impl<B: Broadcast> Station<B> {
 
     /// Opens the view after the larger of view and height, drops the kept claims, and answers the view opened. Where the height had reached the
     /// old view it sends the highest certificate.
-    pub fn leave(&mut self, out: &mut Bounded<'_, Sent, 32>) -> Result<u32, Refusal>
-        ensures { LeaveCall (desk_of B.Observe self.old out.old) (desk_of B.Observe self.new out.new) result }
+    pub fn leave(&mut self, out: &mut Outbox<'_>) -> Result<u32, Refusal>
+        ensures { LeaveCall (desk_of self.old out.old) (desk_of self.new out.new) result }
     {
         self.judge_leave(out)?;
         let view = self.cast.view();

@@ -16,8 +16,9 @@ mod probe;
 mod ranges;
 mod start;
 pub mod stations;
+mod views;
 mod voices;
 
 pub use grounds::Ground;
-pub use outbox::take;
+pub use outbox::{Outbox, take};
 pub use stations::Station;

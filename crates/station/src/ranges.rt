@@ -2,62 +2,49 @@
 
 ghost use Rattle.std.specs.Prelude.{◌≡◌};
 ghost use Rattle.model.specs.Blocks.{referred};
-ghost use Rattle.model.specs.Ranges.{some_stations, view_fits, grade_fits, halves_fit, name_fits, names_fit, entry_fits, author_of, block_fits};
+ghost use Rattle.model.specs.Questions.{Judged};
+ghost use Rattle.model.specs.Ranges.{some_stations, name_fits, names_fit, entry_fits, block_fits};
+ghost use Rattle.station.specs.Ready.{IsGrade, range_questions};
 
-use model::{Block, Entry, Name, Numbers, References};
-
-/// The first number above those of views and entries.
-const LIMIT: u32 = 0x1000_0000;
-
-/// The first number above the halves of a name.
-const HALF_LIMIT: u64 = 0x100_0000_0000_0000;
+use model::{Block, Entry, Grade, Name, Numbers, References, Refusal, view_fits};
 
 /// Whether the mask is of some stations, all of them stations that there are.
+#[tactic(auto, unfolding(model::specs::Ranges::some_stations))]
 pub(crate) fn some_stations(numbers: Numbers, mask: u32) -> bool
     ensures { result ≡ some_stations numbers mask }
 {
     mask != 0 && numbers.is_within(mask)
 }
 
-/// Whether it is a view, or a number of an entry: from 1 to 2^28 - 1.
-pub(crate) fn view_fits(view: u32) -> bool
-    ensures { result ≡ view_fits view }
-{
-    0 < view && view < LIMIT
-}
-
-/// Whether it is a grade's number.
-pub(crate) fn grade_fits(grade: u32) -> bool
-    ensures { result ≡ grade_fits grade }
-{
-    grade == 1 || grade == 2
-}
-
-/// Whether both halves of the name are in range.
-pub(crate) fn halves_fit(name: Name) -> bool
-    ensures { result ≡ halves_fit name }
-{
-    name.high < HALF_LIMIT && name.low < HALF_LIMIT
-}
-
 /// Whether it is a name, and not that of genesis.
+#[tactic(auto, unfolding(model::specs::Ranges::name_fits))]
 pub(crate) fn name_fits(name: Name) -> bool
     ensures { result ≡ name_fits name }
 {
-    halves_fit(name) && !name.is(Name::GENESIS)
+    name.halves_fit() && name != Name::GENESIS
+}
+
+/// The grade of that number, if it is one and view and name are in range.
+#[tactic(auto, unfolding(model::specs::Ranges::grade_fits))]
+pub(crate) fn judge_ranges(grade: u32, view: u32, name: Name) -> Result<Grade, Refusal>
+    ensures { Judged (range_questions grade view name) (IsGrade grade) result }
+{
+    let grade = Grade::try_from(grade)?;
+    if !(view_fits(view) && name_fits(name)) {
+        return Err(Refusal::OutOfRange);
+    }
+    Ok(grade)
 }
 
 /// Whether each of them is such a name.
 fn names_fit(references: References) -> bool
     ensures { result ≡ names_fit (referred references) }
 {
-    match references.split_first() {
-        Some((name, rest)) => name_fits(name) && names_fit(rest),
-        None => true,
-    }
+    references.into_iter().all(name_fits)
 }
 
 /// Whether each number of the entry is in range.
+#[tactic(auto, unfolding(model::specs::Ranges::entry_fits))]
 fn entry_fits(entry: Entry) -> bool
     ensures { result ≡ entry_fits entry }
 {
@@ -71,17 +58,8 @@ fn entry_fits(entry: Entry) -> bool
     }
 }
 
-/// Who made the block.
-pub(crate) fn author(block: Block) -> u32
-    ensures { result ≡ author_of block }
-{
-    match block {
-        Block::Side(side) => side.author,
-        Block::Backbone(backbone) => backbone.author,
-    }
-}
-
 /// Whether the block's numbers but its author are in range.
+#[tactic(auto, unfolding(model::specs::Ranges::block_fits))]
 pub(crate) fn block_fits(block: Block) -> bool
     ensures { result ≡ block_fits block }
 {
@@ -92,7 +70,7 @@ pub(crate) fn block_fits(block: Block) -> bool
         Block::Backbone(backbone) => {
             name_fits(backbone.name)
                 && view_fits(backbone.view)
-                && halves_fit(backbone.parent.name)
+                && backbone.parent.name.halves_fit()
                 && names_fit(backbone.references)
         }
     }
