@@ -1,5 +1,11 @@
 -- The number that a numeral of a script stands for. Assumes nothing.
 use Rattle.std.specs.Prelude.{ℕ, ◌+◌, ◌-◌, ◌*◌, Bool, cond, ◌&&◌, List, [], ◌∷◌, length, drop, Some, None, Option, ◌==◌, nat_le, nat_lt, slice_index}
+use Rattle.bench.specs.declared.numerals.Base.{Base}
+use Rattle.bench.specs.declared.numerals.Base.TheVariants.{Ten, Sixteen}
+
+abbrev pub radix : Base → ℕ
+radix Ten = 10
+radix Sixteen = 16
 
 -- a digit below the base, or none
 abbrev pub below : ℕ → ℕ → Option ℕ
@@ -31,13 +37,17 @@ value_of base bs = cond (length bs == 0) None (value_from base (Some 0) bs)
 abbrev pub prefixed : List ℕ → Bool
 prefixed bs = slice_index bs 0 == 48 && slice_index bs 1 == 120
 
+-- digits of the base, or hexadecimal ones behind 0x
+abbrev pub numeral_in : ℕ → List ℕ → Option ℕ
+numeral_in base bs = cond (prefixed bs) (value_of 16 (drop 2 bs)) (value_of base bs)
+
 -- a numeral is decimal, or hexadecimal behind 0x
 abbrev pub numeral : List ℕ → Option ℕ
-numeral bs = cond (prefixed bs) (value_of 16 (drop 2 bs)) (value_of 10 bs)
+numeral bs = numeral_in 10 bs
 
 -- a word of 32 bits is hexadecimal, with or without 0x
 abbrev pub word_numeral : List ℕ → Option ℕ
-word_numeral bs = cond (prefixed bs) (value_of 16 (drop 2 bs)) (value_of 16 bs)
+word_numeral bs = numeral_in 16 bs
 
 -- such a number, if 32 bits hold it
 abbrev pub short : Option ℕ → Option ℕ

@@ -1,80 +1,68 @@
-ghost use Rattle.std.specs.Prelude.{◌≡◌};
-ghost use Rattle.bench.specs.Numerals.{digit, with_digit, value_of, numeral, word_numeral, short};
+ghost use Rattle.std.specs.Prelude.{◌≡◌, ◌≤◌};
+ghost use Rattle.bench.specs.Numerals.{radix, value_of, numeral_in, numeral, word_numeral, short};
 
-/// The value of a digit, up to 9 or to f by the base.
-fn digit_of(base: u64, byte: u8) -> Option<u64>
-    ensures { result ≡ digit base byte }
-{
-    let value = match byte {
-        b'0'..=b'9' => byte - b'0',
-        b'a'..=b'f' => byte - b'a' + 10,
-        b'A'..=b'F' => byte - b'A' + 10,
-        _ => return None,
-    };
-    if u64::from(value) < base {
-        Some(u64::from(value))
-    } else {
-        None
+/// The base of digits that have no `0x` before them.
+#[derive(Clone, Copy)]
+enum Base {
+    Ten = 10,
+    Sixteen = 16,
+}
+
+impl Base {
+    /// How many digits it has.
+    fn radix(self) -> u32
+        ensures exact { result ≡ radix self }
+        ensures low { 2 ≤ result }
+        ensures high { result ≤ 16 }
+    {
+        self as u32
     }
 }
 
-/// The number with one digit more, as long as it fits.
-fn with_digit(base: u64, number: u64, byte: u8) -> Option<u64>
-    ensures { result ≡ with_digit base number (digit base byte) }
+/// The number that a row of digits stands for: at least one digit, and no sign.
+fn value(base: Base, digits: &str) -> Option<u64>
+    ensures { result ≡ value_of (radix base) digits.now }
 {
-    let digit = digit_of(base, byte)?;
-    number.checked_mul(base)?.checked_add(digit)
-}
-
-/// The number that a row of digits stands for.
-fn value(base: u64, digits: &[u8]) -> Option<u64>
-    ensures { result ≡ value_of base digits.now }
-{
-    if digits.is_empty() {
+    if digits.starts_with('+') {
         return None;
     }
-    let mut number = 0;
-    for byte in digits {
-        match with_digit(base, number, *byte) {
-            Some(more) => number = more,
-            None => return None,
-        }
+    u64::from_str_radix(digits, base.radix()).ok()
+}
+
+/// The number that a numeral of a base stands for, hexadecimal behind `0x`; none where 64 bits do not hold it.
+fn numeral(base: Base, text: &str) -> Option<u64>
+    ensures { result ≡ numeral_in (radix base) text.now }
+{
+    match text.strip_prefix("0x") {
+        Some(digits) => value(Base::Sixteen, digits),
+        None => value(base, text),
     }
-    Some(number)
+}
+
+/// The same where 32 bits hold it.
+fn short_of(base: Base, text: &str) -> Option<u32>
+    ensures { result ≡ short (numeral_in (radix base) text.now) }
+{
+    u32::try_from(numeral(base, text)?).ok()
 }
 
 /// The number that a numeral stands for: decimal, or hexadecimal behind `0x`; none where 64 bits do not hold it.
 pub fn number(text: &str) -> Option<u64>
     ensures { result ≡ numeral text.now }
 {
-    match text.as_bytes() {
-        [b'0', b'x', digits @ ..] => value(16, digits),
-        digits => value(10, digits),
-    }
+    numeral(Base::Ten, text)
 }
 
 /// The same where 32 bits hold it.
 pub fn short_number(text: &str) -> Option<u32>
     ensures { result ≡ short (numeral text.now) }
 {
-    let number = number(text)?;
-    u32::try_from(number).ok()
-}
-
-/// The number that hexadecimal digits stand for, with or without `0x`.
-fn hexadecimal(text: &str) -> Option<u64>
-    ensures { result ≡ word_numeral text.now }
-{
-    match text.as_bytes() {
-        [b'0', b'x', digits @ ..] => value(16, digits),
-        digits => value(16, digits),
-    }
+    short_of(Base::Ten, text)
 }
 
 /// A word of 32 bits, hexadecimal with or without `0x`.
 pub fn word(text: &str) -> Option<u32>
     ensures { result ≡ short (word_numeral text.now) }
 {
-    let number = hexadecimal(text)?;
-    u32::try_from(number).ok()
+    short_of(Base::Sixteen, text)
 }

@@ -1,131 +1,103 @@
-ghost use Rattle.std.specs.Prelude.{◌≡◌};
-ghost use Rattle.bench.specs.declared.faults.Fault.TheVariants.{NoMemory};
-
-use crate::faults::Fault;
+use crate::faults::{Fault, Objection};
 use crate::numerals::{number, short_number};
 use model::{
     BackboneBlock, Certificate, Claim, Entry, Name, Offer, OfferClaim, Parent, References,
     SideBlock, Voices,
 };
-use std::alloc::{AllocFailed, Global};
-
-/// A message as a script writes it down.
-#[derive(Drop)]
-pub(crate) enum Spoken {
-    Side(SideBlock),
-    Backbone(BackboneBlock),
-    Offer(Offer, Vec<OfferClaim>),
-    Voices(Voices),
-    Certificate(Certificate),
-    Claim(Claim),
-    Probe,
-    Leave,
-}
-
-impl<T: Drop> From<AllocFailed<T>> for Fault {
-    ghost from_gives = { λ _ fault. fault ≡ NoMemory };
-
-    fn from(_: AllocFailed<T>) -> Fault {
-        Fault::NoMemory
-    }
-}
+use std::alloc::Global;
+use words::{Message, write_claims};
 
 /// A number of at most 32 bits.
 pub(crate) fn short(text: &str) -> Result<u32, Fault> {
-    match short_number(text) {
-        Some(n) => Ok(n),
-        None => Err(Fault::NotANumber),
-    }
+    short_number(text).ok_or(Fault::NotANumber)
+}
+
+/// Two numbers around a colon.
+fn pair<T: Drop, F: Fn(&str) -> Option<T>>(number: F, text: &str) -> Option<(T, T)>
+    requires { F.IsAlwaysCallable number }
+{
+    let (first, second) = text.split_once(':')?;
+    Some((number(first)?, number(second)?))
 }
 
 /// A name, `HIGH:LOW`.
-pub(crate) fn name(text: &str) -> Result<Name, Fault> {
-    let Some((high, low)) = text.split_once(':') else {
-        return Err(Fault::NotAName);
-    };
-    match (number(high), number(low)) {
-        (Some(high), Some(low)) => Ok(Name { high, low }),
-        _ => Err(Fault::NotAName),
-    }
+fn name(text: &str) -> Result<Name, Fault> {
+    let (high, low) = pair(number, text).ok_or(Fault::NotAName)?;
+    Ok(Name { high, low })
 }
 
 /// A claim, `STATION:HEIGHT`.
 fn claim_record(text: &str) -> Result<OfferClaim, Fault> {
-    let Some((station, height)) = text.split_once(':') else {
-        return Err(Fault::NotAClaim);
-    };
-    match (short_number(station), short_number(height)) {
-        (Some(station), Some(height)) => Ok(OfferClaim { station, height }),
-        _ => Err(Fault::NotAClaim),
+    let (station, height) = pair(short_number, text).ok_or(Fault::NotAClaim)?;
+    Ok(OfferClaim { station, height })
+}
+
+/// The row behind a keyword; an empty one where not even the keyword stands.
+fn row<'a>(keyword: &str, texts: &'a [&'a str]) -> Result<&'a [&'a str], Fault> {
+    match texts {
+        [] => Ok(texts),
+        [first, row @ ..] if *first == keyword => Ok(row),
+        _ => Err(Fault::NotAMessage),
     }
 }
 
 /// The references behind a block: nothing, or `refs` and up to four names.
-pub(crate) fn references(texts: &[&str]) -> Result<References, Fault> {
-    let names = match texts {
-        [] => return Ok(References::Empty),
-        ["refs", names @ ..] => names,
-        _ => return Err(Fault::NotAMessage),
-    };
+fn references(texts: &[&str]) -> Result<References, Fault> {
     let mut found = References::Empty;
-    for text in names {
-        match found.with(name(text)?) {
-            Some(more) => found = more,
-            None => return Err(Fault::TooManyReferences),
-        }
+    for text in row("refs", texts)? {
+        found = found.with(name(text)?).ok_or(Fault::TooManyReferences)?;
     }
     Ok(found)
 }
 
 /// The claims behind an offer: nothing, or `claims` and up to 60 of them.
-pub(crate) fn offer_claims(heap: Global, texts: &[&str]) -> Result<Vec<OfferClaim>, Fault> {
-    let mut claims = Vec::new(heap);
-    let records = match texts {
-        [] => return Ok(claims),
-        ["claims", records @ ..] => records,
-        _ => return Err(Fault::NotAMessage),
-    };
+fn offer_claims(heap: Global, texts: &[&str]) -> Result<Vec<OfferClaim>, Fault> {
+    let records = row("claims", texts)?;
     if records.len() > 60 {
         return Err(Fault::TooManyClaims);
     }
-    for text in records {
-        claims.push(claim_record(text)?)?;
-    }
-    Ok(claims)
+    records
+        .iter()
+        .map(|text| claim_record(text))
+        .try_collect(heap)
 }
 
-pub(crate) fn side(texts: &[&str]) -> Result<SideBlock, Fault> {
+/// An entry, and the texts behind it.
+fn entry<'a>(texts: &'a [&'a str]) -> Result<(Entry, &'a [&'a str]), Fault> {
     match texts {
-        [own, author, "bind", sonde, certificate, flight, rest @ ..] => {
+        ["bind", sonde, certificate, flight, rest @ ..] => {
             let entry = Entry::Bind {
                 sonde: short(sonde)?,
                 certificate: short(certificate)?,
                 flight: short(flight)?,
             };
-            Ok(SideBlock {
-                name: name(own)?,
-                author: short(author)?,
-                entry,
-                references: references(rest)?,
-            })
+            Ok((entry, rest))
         }
-        [own, author, "release", sonde, flight, rest @ ..] => {
+        ["release", sonde, flight, rest @ ..] => {
             let entry = Entry::Release {
                 sonde: short(sonde)?,
                 flight: short(flight)?,
             };
-            Ok(SideBlock {
-                name: name(own)?,
-                author: short(author)?,
-                entry,
-                references: references(rest)?,
-            })
+            Ok((entry, rest))
         }
         _ => Err(Fault::NotAMessage),
     }
 }
 
-pub(crate) fn backbone(texts: &[&str]) -> Result<BackboneBlock, Fault> {
+fn side(texts: &[&str]) -> Result<SideBlock, Fault> {
+    let [own, author, rest @ ..] = texts else {
+        return Err(Fault::NotAMessage);
+    };
+    let (entry, rest) = entry(rest)?;
+    Ok(SideBlock {
+        name: name(own)?,
+        author: short(author)?,
+        entry,
+        references: references(rest)?,
+    })
+}
+
+fn backbone(texts: &[&str]) -> Result<BackboneBlock, Fault> {
     let [own, author, view, below, parent, rest @ ..] = texts else {
         return Err(Fault::NotAMessage);
     };
@@ -141,23 +113,29 @@ pub(crate) fn backbone(texts: &[&str]) -> Result<BackboneBlock, Fault> {
     })
 }
 
-pub(crate) fn offer(
-    station: &str,
-    view: &str,
-    block: &str,
-    grade: &str,
-    mask: &str,
-) -> Result<Offer, Fault> {
-    Ok(Offer {
+/// An offer, and its claims as words in the room lent.
+fn offer<'a>(heap: Global, texts: &[&str], room: &'a mut [u32]) -> Result<Message<'a>, Objection> {
+    let [station, view, block, grade, mask, rest @ ..] = texts else {
+        return Err(Fault::NotAMessage.into());
+    };
+    let offer = Offer {
         station: short(station)?,
         view: short(view)?,
         name: name(block)?,
         grade: short(grade)?,
         mask: short(mask)?,
+    };
+    let count = write_claims(&offer_claims(heap, rest)?, room)?;
+    Ok(Message::Offer {
+        offer,
+        claims: &room[..count],
     })
 }
 
-pub(crate) fn voices(grade: &str, view: &str, block: &str, mask: &str) -> Result<Voices, Fault> {
+fn voices(texts: &[&str]) -> Result<Voices, Fault> {
+    let [grade, view, block, mask] = texts else {
+        return Err(Fault::NotAMessage);
+    };
     Ok(Voices {
         grade: short(grade)?,
         view: short(view)?,
@@ -166,21 +144,10 @@ pub(crate) fn voices(grade: &str, view: &str, block: &str, mask: &str) -> Result
     })
 }
 
-pub(crate) fn certificate(
-    grade: &str,
-    view: &str,
-    block: &str,
-    mask: &str,
-) -> Result<Certificate, Fault> {
-    Ok(Certificate {
-        grade: short(grade)?,
-        view: short(view)?,
-        name: name(block)?,
-        mask: short(mask)?,
-    })
-}
-
-pub(crate) fn claim(station: &str, view: &str, height: &str) -> Result<Claim, Fault> {
+fn claim(texts: &[&str]) -> Result<Claim, Fault> {
+    let [station, view, height] = texts else {
+        return Err(Fault::NotAMessage);
+    };
     Ok(Claim {
         station: short(station)?,
         view: short(view)?,
@@ -188,20 +155,21 @@ pub(crate) fn claim(station: &str, view: &str, height: &str) -> Result<Claim, Fa
     })
 }
 
-/// A message in the words that `read` prints.
-pub(crate) fn message(heap: Global, texts: &[&str]) -> Result<Spoken, Fault> {
+/// A message in the words that `read` prints; the words of an offer's claims go to the front of the room lent.
+pub(crate) fn message<'a>(
+    heap: Global,
+    texts: &[&str],
+    room: &'a mut [u32],
+) -> Result<Message<'a>, Objection> {
     match texts {
-        ["side", rest @ ..] => Ok(Spoken::Side(side(rest)?)),
-        ["back", rest @ ..] => Ok(Spoken::Backbone(backbone(rest)?)),
-        ["offer", s, v, n, g, m, rest @ ..] => Ok(Spoken::Offer(
-            offer(s, v, n, g, m)?,
-            offer_claims(heap, rest)?,
-        )),
-        ["voices", g, v, n, m] => Ok(Spoken::Voices(voices(g, v, n, m)?)),
-        ["certificate", g, v, n, m] => Ok(Spoken::Certificate(certificate(g, v, n, m)?)),
-        ["claim", s, v, h] => Ok(Spoken::Claim(claim(s, v, h)?)),
-        ["probe"] => Ok(Spoken::Probe),
-        ["leave"] => Ok(Spoken::Leave),
-        _ => Err(Fault::NotAMessage),
+        ["side", rest @ ..] => Ok(Message::Side(side(rest)?)),
+        ["back", rest @ ..] => Ok(Message::Backbone(backbone(rest)?)),
+        ["offer", rest @ ..] => offer(heap, rest, room),
+        ["voices", rest @ ..] => Ok(Message::Voices(voices(rest)?)),
+        ["certificate", rest @ ..] => Ok(Message::Certificate(Certificate::from(voices(rest)?))),
+        ["claim", rest @ ..] => Ok(Message::Claim(claim(rest)?)),
+        ["probe"] => Ok(Message::Probe),
+        ["leave"] => Ok(Message::Leave),
+        _ => Err(Fault::NotAMessage.into()),
     }
 }

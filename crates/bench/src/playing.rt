@@ -1,95 +1,58 @@
 ghost use Rattle.std.specs.Prelude.{◌≡◌, IfErr};
 ghost use Rattle.bench.specs.declared.faults.Fault.TheVariants.{NoMemory};
 
-use crate::faults::Fault;
+use crate::faults::{Fault, Objection};
 use crate::numerals::word;
-use crate::parsing::{Spoken, message, short};
-use crate::showing::{show_message, show_refusal, show_words};
-use model::Refusal;
+use crate::parsing::{message, short};
+use crate::showing::{Heard, Words};
+use model::OfferClaim;
 use std::alloc::Global;
-use words::{Message, read, write, write_claims};
+use words::{read, write};
 
 /// The parts of a line between its blanks, up to a comment.
 fn parts(heap: Global, line: &str) -> Result<Vec<&str>, Fault>
     ensures { IfErr result (λ fault. fault ≡ NoMemory) }
 {
-    let text = match line.split_once('#') {
-        Some((text, _)) => text,
-        None => line,
-    };
-    let mut parts = Vec::new(heap);
-    for part in text.split_whitespace() {
-        parts.push(part)?;
-    }
-    Ok(parts)
+    let text = line.split_once('#').map_or(line, |(text, _)| text);
+    Ok(text.split_whitespace().collect(heap)?)
 }
 
 /// `read WORD ..`: the message that the words are.
-fn play_read(heap: Global, texts: &[&str], out: &mut String) -> Result<(), Fault> {
+fn play_read(heap: Global, texts: &[&str]) -> Result<String, Objection> {
     if texts.len() > 80 {
-        return Err(Fault::TooManyWords);
+        return Err(Fault::TooManyWords.into());
     }
-    let mut words = Vec::new(heap);
-    for text in texts {
-        match word(text) {
-            Some(w) => words.push(w)?,
-            None => return Err(Fault::NotAWord),
-        }
-    }
-    match read(&words) {
-        Ok(message) => show_message(out, &message),
-        Err(refusal) => show_refusal(out, refusal),
-    }
-}
-
-/// The message, with the words of its claims where it is an offer.
-fn spoken_message<'a>(spoken: &Spoken, claims: &'a [u32]) -> Message<'a> {
-    match spoken {
-        Spoken::Side(block) => Message::Side(*block),
-        Spoken::Backbone(block) => Message::Backbone(*block),
-        Spoken::Offer(offer, _) => Message::Offer {
-            offer: *offer,
-            claims,
-        },
-        Spoken::Voices(voices) => Message::Voices(*voices),
-        Spoken::Certificate(certificate) => Message::Certificate(*certificate),
-        Spoken::Claim(claim) => Message::Claim(*claim),
-        Spoken::Probe => Message::Probe,
-        Spoken::Leave => Message::Leave,
-    }
-}
-
-/// Writes the message; an offer's claims become words first.
-fn write_spoken(spoken: &Spoken, words: &mut [u32]) -> Result<usize, Refusal> {
-    let mut claim_words = [0u32; 56];
-    let count = match spoken {
-        Spoken::Offer(_, claims) => write_claims(claims, &mut claim_words)?,
-        _ => 0,
-    };
-    let message = spoken_message(spoken, &claim_words[0..count.min(56)]);
-    write(&message, words)
+    let words: Vec<u32> = texts
+        .iter()
+        .map(|text| word(text).ok_or(Fault::NotAWord))
+        .try_collect(heap)?;
+    let mut places = [OfferClaim {
+        station: 0,
+        height: 0,
+    }; 28];
+    let heard = Heard::new(read(&words)?, &mut places)?;
+    Ok(format!(in heap; "{heard}")?)
 }
 
 /// `write SPACE MESSAGE`: the words of the message.
-fn play_write(heap: Global, space: &str, texts: &[&str], out: &mut String) -> Result<(), Fault> {
+fn play_write(heap: Global, space: &str, texts: &[&str]) -> Result<String, Objection> {
     let space = short(space)? as usize;
     if space > 80 {
-        return Err(Fault::TooMuchSpace);
+        return Err(Fault::TooMuchSpace.into());
     }
-    let spoken = message(heap, texts)?;
+    let mut room = [0u32; 56];
+    let message = message(heap, texts, &mut room)?;
     let mut words = vec![in heap; 0u32; space]?;
-    match write_spoken(&spoken, &mut words) {
-        Ok(count) => show_words(out, &words, count),
-        Err(refusal) => show_refusal(out, refusal),
-    }
+    let count = write(&message, &mut words)?;
+    Ok(format!(in heap; "{}", Words(&words[..count]))?)
 }
 
-fn play_parts(heap: Global, parts: &[&str], out: &mut String) -> Result<(), Fault> {
+fn play_parts(heap: Global, parts: &[&str]) -> Result<String, Objection> {
     match parts {
-        [] => Ok(()),
-        ["read", words @ ..] => play_read(heap, words, out),
-        ["write", space, message @ ..] => play_write(heap, space, message, out),
-        _ => Err(Fault::UnknownCommand),
+        [] => Ok(String::new(heap)),
+        ["read", words @ ..] => play_read(heap, words),
+        ["write", space, message @ ..] => play_write(heap, space, message),
+        _ => Err(Fault::UnknownCommand.into()),
     }
 }
 
@@ -99,13 +62,5 @@ pub fn play(heap: Global, line: &str) -> Result<String, Fault>
     ensures { IfErr result (λ fault. fault ≡ NoMemory) }
 {
     let parts = parts(heap, line)?;
-    let mut out = String::new(heap);
-    match play_parts(heap, &parts, &mut out) {
-        Ok(()) => Ok(out),
-        Err(fault) => {
-            let mut error = String::from_str(heap, "error ")?;
-            error.push_str(fault.reason())?;
-            Ok(error)
-        }
-    }
+    play_parts(heap, &parts).or_else(|objection| Ok(format!(in heap; "{objection}")?))
 }

@@ -4,31 +4,25 @@
 
 use anyhow::anyhow;
 use bench::play;
-use std::io::Read;
-use std::{env, fs};
+use std::{env, fs, io};
 
 /// The script: the file named first among the arguments, or standard input where none is.
-fn script(rt: &HostRuntime) -> anyhow::Result<String> {
-    let mut args = env::args(rt)?;
-    let _ = args.next();
-    if let Some(path) = args.next() {
-        return Ok(fs::read_to_string(rt, path.as_str())?);
+fn script(rt: &HostRuntime) -> io::Result<String> {
+    match env::args(rt)?.nth(1) {
+        Some(path) => fs::read_to_string(rt, path),
+        None => io::read_to_string(rt.alloc(), rt.stdin()),
     }
-    let mut text = String::new(rt.alloc());
-    let _ = rt.stdin().read_to_string(&mut text)?;
-    Ok(text)
 }
 
 fn main(rt: HostRuntime) -> anyhow::Result<()> {
     let script = script(&rt)?;
     for line in script.lines() {
-        match play(rt.alloc(), line) {
-            Ok(answer) => {
-                if !answer.is_empty() {
-                    rt.println(answer)?;
-                }
-            }
-            Err(_) => return Err(anyhow!("there is no memory for this script")),
+        // The text is this program's: that of a fault speaks of a line.
+        let answer = play(rt.alloc(), line).map_err(|_| anyhow!(
+            "there is no memory for this script"
+        ))?;
+        if !answer.is_empty() {
+            rt.println(answer)?;
         }
     }
     Ok(())

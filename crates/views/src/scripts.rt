@@ -6,6 +6,8 @@ pub const ALPHA: Name = Name { high: 1, low: 1 };
 
 pub const BRAVO: Name = Name { high: 1, low: 2 };
 
+/// One thing that happens. An enum and no closures: a script is a constant row that every make plays, and a closure
+/// over one make could be played by that make alone.
 #[derive(Clone, Copy)]
 pub enum Step {
     Offer(Name),
@@ -15,7 +17,7 @@ pub enum Step {
 }
 
 /// Four stations, heard one by one; station 3 lies, and some voices come twice. The second view is probed early.
-pub const FOUR_ALONE: [Step; 29] = [
+pub const FOUR_ALONE: &[Step] = &[
     Step::Hear(Grade::One, ALPHA, 0b0001),
     Step::Offer(ALPHA),
     Step::Offer(BRAVO),
@@ -48,7 +50,7 @@ pub const FOUR_ALONE: [Step; 29] = [
 ];
 
 /// Four stations, heard as the leader passes them on.
-pub const FOUR_TOGETHER: [Step; 18] = [
+pub const FOUR_TOGETHER: &[Step] = &[
     Step::Offer(ALPHA),
     Step::Hear(Grade::One, ALPHA, 0b0001),
     Step::Hear(Grade::One, ALPHA, 0b1001),
@@ -70,7 +72,7 @@ pub const FOUR_TOGETHER: [Step; 18] = [
 ];
 
 /// Seven stations, heard one by one; stations 5 and 6 lie.
-pub const SEVEN_ALONE: [Step; 32] = [
+pub const SEVEN_ALONE: &[Step] = &[
     Step::Offer(BRAVO),
     Step::Offer(BRAVO),
     Step::Hear(Grade::One, ALPHA, 0b0100000),
@@ -106,7 +108,7 @@ pub const SEVEN_ALONE: [Step; 32] = [
 ];
 
 /// Seven stations, heard as the leader passes them on.
-pub const SEVEN_TOGETHER: [Step; 14] = [
+pub const SEVEN_TOGETHER: &[Step] = &[
     Step::Hear(Grade::One, BRAVO, 0b0001111),
     Step::Hear(Grade::One, BRAVO, 0b0011111),
     Step::Offer(BRAVO),
