@@ -72,10 +72,6 @@ decides_clear bs ms names false h = (
 )
 
 -- the block at a place, if it is marked and refers to no marked one
-pub candidate_unmarked : (bs : List Block) (ms : List Bool) (i : ℕ) (s : SideBlock) → mark ms i ≡ false → MatchOption (then_some (mark ms i) s) ((t : SideBlock) → Candidate bs ms i t → ⊥) (Candidate bs ms i)
-candidate_unmarked bs ms i s off =
-    subst (λ r. MatchOption (then_some r s) ((t : SideBlock) → Candidate bs ms i t → ⊥) (Candidate bs ms i)) (sym off) (λ t c. both_ways (mark ms i) off c.0)
-
 pub candidate_clear : (bs : List Block) (ms : List Bool) (i : ℕ) (s : SideBlock) → slice_get bs i ≡ Some (Side s) → mark ms i ≡ true → (r : Bool) → Decides r (Clear bs ms (referred s.references)) → MatchOption (then_some r s) ((t : SideBlock) → Candidate bs ms i t → ⊥) (Candidate bs ms i)
 candidate_clear bs ms i s at on true h = (on, at, h.0 refl)
 candidate_clear bs ms i s at on false h =

@@ -2,7 +2,7 @@
 ghost use Rattle.std.specs.Prelude.{◌≡◌, ℕ, ◌+◌, List, length, Decides, MatchOption, slice_index};
 ghost use Rattle.model.specs.declared.blocks.SideBlock.{SideBlock as SideT};
 ghost use Rattle.model.specs.Blocks.{referred};
-ghost use Rattle.listing.specs.Marks.{Marked, Clear, Candidate, Best};
+ghost use Rattle.listing.specs.Marks.{mark, Marked, Clear, Candidate, Best};
 
 use crate::marks::MarkedShelf;
 use model::{Name, References, SideBlock};
@@ -23,12 +23,23 @@ impl<'a> MarkedShelf<'a> {
         !references.into_iter().any(|name| self.is_marked(name))
     }
 
+    // Whether that place is marked.
+    fn has_mark(&self, place: usize) -> bool
+        ensures { result ≡ mark self.now.marked place }
+    {
+        place < self.marked.len() && self.marked[place]
+    }
+
     // The side block at that place, if it is marked and refers to no marked one.
+    // The mark comes first: half of those waiting are listed already, and their blocks need not be read.
     fn candidate(&self, place: usize) -> Option<SideBlock>
         ensures { MatchOption result ((s : SideT) → Candidate self.now.shelf.blocks.now self.now.marked place s → ⊥) (λ s. Candidate self.now.shelf.blocks.now self.now.marked place s) }
     {
+        if !self.has_mark(place) {
+            return None;
+        }
         let side = self.shelf.side_at(place)?;
-        (self.marked[place] && self.are_clear(side.references)).then_some(side)
+        self.are_clear(side.references).then_some(side)
     }
 
     // The first, by the order, of the best so far and the candidate at the place, if there is one.

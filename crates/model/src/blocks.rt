@@ -129,6 +129,7 @@ impl Iterator for Names {
 
     ghost remaining = { item_count names_left };
 
+    #[inline(always)]
     fn next(&mut self) -> Option<Name> {
         let (first, behind) = self.left.split_first()?;
         self.left = behind;
