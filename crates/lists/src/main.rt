@@ -223,16 +223,19 @@ fn full(rt: &HostRuntime) -> io::Result<()> {
 }
 
 fn tell(rt: &HostRuntime, book: &Book<'_>, lines: &Lines<'_>, sonde: u32) -> io::Result<()> {
-    print!(rt; "  sonde {sonde}: ")?;
     match use_of(book, lines, sonde) {
         Ok(
             Use::Convert {
                 certificate,
                 flight,
             },
-        ) => println!(rt; "convert with certificate {certificate}, flight {flight}"),
-        Ok(Use::PassOver) => println!(rt; "pass over"),
-        Err(refusal) => println!(rt; "refused by question {}", refusal.number()),
+        ) => {
+            println!(rt; "  sonde {sonde}: convert with certificate {certificate}, flight {flight}")
+        }
+        Ok(Use::PassOver) => println!(rt; "  sonde {sonde}: pass over"),
+        Err(refusal) => {
+            println!(rt; "  sonde {sonde}: refused by question {}", refusal.number())
+        }
     }
 }
 

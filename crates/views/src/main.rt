@@ -21,10 +21,9 @@ fn print_completed<B: Observe>(rt: &HostRuntime, cast: &B) -> io::Result<()> {
 }
 
 fn offer<B: Broadcast>(rt: &HostRuntime, cast: &mut B, name: Name) -> io::Result<()> {
-    print!(rt; "  {} offered: ", Told(name))?;
     match cast.offer(name) {
-        Ok(()) => println!(rt; "first vote cast"),
-        Err(refusal) => rt.println(Told(refusal)),
+        Ok(()) => println!(rt; "  {} offered: first vote cast", Told(name)),
+        Err(refusal) => println!(rt; "  {} offered: {}", Told(name), Told(refusal)),
     }
 }
 
