@@ -41,6 +41,11 @@ abbrev pub named : Ballot → Option Support → Option Name
 named b None = None
 named b (Some w) = then_some (quorum b.numbers w.mask) w.name
 
+-- whether a support that completes a view completes it for that name
+abbrev pub completes : Ballot → Option Support → Name → Bool
+completes b None x = false
+completes b (Some w) x = cond (same x w.name) (quorum b.numbers w.mask) false
+
 module _ (b : Ballot) where
   below : (k : ℕ) → within b.numbers k ≡ true → k < 2 ^ 28
   below k h =
@@ -67,21 +72,22 @@ module _ (b : Ballot) where
   vacates None i = refl
   vacates (Some w) i = let f = (fit w i).0 in vacant_enter w.name 28 w.mask (fit w i).1 ∙ search rules
 
-  -- a view whose second support this is, is complete for its name, if that holds a quorum
+  -- a view whose second support this is, is complete for its name, if that holds a quorum, and for no other
+  completes_of : (l : Ledger) (o : Option Support) → inside b o ≡ true → (x : Name) → complete (told b l (supported o)) x ≡ completes b o x
+  completes_of l None i x = ap (quorum b.numbers) (under_of None i x) ∙ none_quorum b.numbers
+  completes_of l (Some w) i x = ap (quorum b.numbers) (under_of (Some w) i x) ∙ split (same x w.name)
+    where
+      split : (c : Bool) → quorum b.numbers (cond c w.mask 0) ≡ cond c (quorum b.numbers w.mask) false
+      split true = refl
+      split false = none_quorum b.numbers
+
   answers : (l : Ledger) (o : Option Support) → inside b o ≡ true → Completed (told b l (supported o)) (named b o)
-  answers l None i = λ x. ap (quorum b.numbers) (under_of None i x) ∙ none_quorum b.numbers
+  answers l None i = completes_of l None i
   answers l (Some w) i = go (quorum b.numbers w.mask) refl
     where
-      of_name : (x : Name) → complete (told b l (supported (Some w))) x ≡ cond (same x w.name) (quorum b.numbers w.mask) false
-      of_name x = ap (quorum b.numbers) (under_of (Some w) i x) ∙ split (same x w.name)
-        where
-          split : (c : Bool) → quorum b.numbers (cond c w.mask 0) ≡ cond c (quorum b.numbers w.mask) false
-          split true = refl
-          split false = none_quorum b.numbers
-
       go : (q : Bool) → quorum b.numbers w.mask ≡ q → Completed (told b l (supported (Some w))) (then_some q w.name)
-      go true e = let s = same_refl w.name in let n = of_name w.name in search rules
-      go false e = λ x. let n = of_name x in search rules
+      go true e = let s = same_refl w.name in let n = completes_of l (Some w) i w.name in search rules
+      go false e = λ x. let n = completes_of l (Some w) i x in search rules
 
 module _ (b : Relayed) where
   pub mask_of : (g : Grade) (x : Name) → under x (ledger (relay b) g) ≡ votes x (held b g)
@@ -92,6 +98,9 @@ module _ (b : Relayed) where
 
   pub vacant_of : (g : Grade) → vacant (ledger (relay b) g) ≡ not (is_some (held b g))
   vacant_of g = ap vacant (ledger_of supported b.ballot b.supports g) ∙ vacates b.ballot (held b g) (b.inside g)
+
+  pub completed_only : (x : Name) → complete (relay b) x ≡ completes b.ballot b.supports.two x
+  completed_only = completes_of b.ballot (supported b.supports.one) b.supports.two (b.inside Two)
 
   pub completed_by : Completed (relay b) (named b.ballot b.supports.two)
   completed_by = answers b.ballot (supported b.supports.one) b.supports.two (b.inside Two)
