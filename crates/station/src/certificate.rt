@@ -3,6 +3,7 @@ ghost use Rattle.model.specs.Questions.{Judged};
 ghost use Rattle.model.specs.Stations.{with_state};
 ghost use Rattle.model.specs.Certifying.{taking, certificate_questions, CertificateCall};
 ghost use Rattle.book.specs.Meaning.{book_of};
+ghost use Rattle.station.specs.Meaning.{core_of};
 
 use crate::ranges::{judge_ranges, some_stations};
 use crate::stations::Station;
@@ -13,7 +14,7 @@ use model::{Certificate, Grade, Refusal};
 impl<B: Broadcast> Station<B> {
     /// Takes a certificate up: as the highest, and if it is of grade 2 as the target, where its view is higher.
     pub(crate) fn take_up(&mut self, certificate: Certificate)
-        ensures { self.new ≡ with_state (taking certificate self.old.state) self.old }
+        ensures { core_of B.Observe self.new ≡ with_state (taking certificate self.old.state) (core_of B.Observe self.old) }
     {
         if self.state.highest.view < certificate.view {
             self.state.highest = certificate;
@@ -24,7 +25,7 @@ impl<B: Broadcast> Station<B> {
     }
 
     fn judge_certificate(&self, book: &Book<'_>, certificate: Certificate) -> Result<(), Refusal>
-        ensures { Judged (certificate_questions self.now (book_of book.now) certificate) (λ _. Unit {0}) result }
+        ensures { Judged (certificate_questions (core_of B.Observe self.now) (book_of book.now) certificate) (λ _. Unit {0}) result }
     {
         let numbers = self.cast.numbers();
         if !some_stations(numbers, certificate.mask) {
@@ -42,7 +43,7 @@ impl<B: Broadcast> Station<B> {
 
     /// Takes up a certificate of a held block.
     pub fn certificate(&mut self, book: &Book<'_>, certificate: Certificate) -> Result<(), Refusal>
-        ensures { CertificateCall self.old (book_of book.now) certificate self.new result }
+        ensures { CertificateCall (core_of B.Observe self.old) (book_of book.now) certificate (core_of B.Observe self.new) result }
     {
         self.judge_certificate(book, certificate)?;
         self.take_up(certificate);

@@ -4,7 +4,7 @@ ghost use Rattle.model.specs.Broadcasts.{Hears};
 ghost use Rattle.model.specs.StationLaws.{Follows};
 ghost use Rattle.model.specs.Voting.{VoicesCall};
 ghost use Rattle.book.specs.Meaning.{book_of};
-ghost use Rattle.station.specs.Meaning.{desk_of};
+ghost use Rattle.station.specs.Meaning.{core_of, desk_of};
 
 use crate::outbox::Outbox;
 use crate::stations::Station;
@@ -20,9 +20,9 @@ pub fn hear_voices<B: Broadcast>(
     out: &mut Outbox<'_>,
     voices: Voices,
 ) -> Result<(), Refusal>
-    ensures clauses { VoicesCall B.Observe.fits B.Observe.free Hears (desk_of station.old out.old) (book_of book.now) voices
-        (desk_of station.new out.new) result }
-    ensures follows { Follows station.old station.new }
+    ensures clauses { VoicesCall B.Observe.fits B.Observe.free Hears (desk_of B.Observe station.old out.old) (book_of book.now) voices
+        (desk_of B.Observe station.new out.new) result }
+    ensures follows { Follows (core_of B.Observe station.old) (core_of B.Observe station.new) }
 {
     station.voices(book, out, voices)
 }

@@ -1,6 +1,6 @@
 ghost use Rattle.model.specs.Questions.{Judged};
 ghost use Rattle.model.specs.Claiming.{ground_questions, GroundCall};
-ghost use Rattle.station.specs.Meaning.{tells};
+ghost use Rattle.station.specs.Meaning.{core_of, tells};
 
 use crate::grounds::Ground;
 use crate::stations::Station;
@@ -10,7 +10,7 @@ use tallies::keepers;
 
 impl<B: Broadcast> Station<B> {
     fn judge_ground(&self) -> Result<(), Refusal>
-        ensures { Judged (ground_questions self.now) (λ _. Unit {0}) result }
+        ensures { Judged (ground_questions (core_of B.Observe self.now)) (λ _. Unit {0}) result }
     {
         let numbers = self.cast.numbers();
         let view = self.cast.view();
@@ -29,7 +29,7 @@ impl<B: Broadcast> Station<B> {
 
     /// Gives a ground to propose on, once in a view: the view and the highest certificate, the coming block's parent.
     pub fn ground(&mut self) -> Result<Ground, Refusal>
-        ensures { GroundCall tells self.old self.new result }
+        ensures { GroundCall tells (core_of B.Observe self.old) (core_of B.Observe self.new) result }
     {
         self.judge_ground()?;
         self.state.grounded = true;

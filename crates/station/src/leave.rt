@@ -9,7 +9,7 @@ use model::{LAST_VIEW, Refusal, SecondVote, Sent};
 
 impl<B: Broadcast> Station<B> {
     fn judge_leave(&self, out: &Outbox<'_>) -> Result<(), Refusal>
-        ensures { Judged (leave_questions (desk_of self.now out.now)) (λ _. Unit {0}) result }
+        ensures { Judged (leave_questions (desk_of B.Observe self.now out.now)) (λ _. Unit {0}) result }
     {
         if !out.has_room(2) {
             return Err(Refusal::NoPlaces);
@@ -28,7 +28,7 @@ impl<B: Broadcast> Station<B> {
     /// Opens the view after the larger of view and height, drops the kept claims, and answers the view opened. Where the height had reached the
     /// old view it sends the highest certificate.
     pub fn leave(&mut self, out: &mut Outbox<'_>) -> Result<u32, Refusal>
-        ensures { LeaveCall (desk_of self.old out.old) (desk_of self.new out.new) result }
+        ensures { LeaveCall (desk_of B.Observe self.old out.old) (desk_of B.Observe self.new out.new) result }
     {
         self.judge_leave(out)?;
         let view = self.cast.view();

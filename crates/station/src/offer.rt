@@ -3,7 +3,7 @@ ghost use Rattle.model.specs.declared.blocks.Block.TheVariants.{Backbone};
 ghost use Rattle.model.specs.Questions.{Judged};
 ghost use Rattle.model.specs.Voting.{offered_form, offered_fit, from_leader, parent_certified, skips_claimed, OfferCall};
 ghost use Rattle.book.specs.Meaning.{book_of};
-ghost use Rattle.station.specs.Meaning.{desk_of};
+ghost use Rattle.station.specs.Meaning.{core_of, desk_of};
 ghost use Rattle.station.specs.Ready.{MayVote};
 
 use crate::outbox::Outbox;
@@ -22,7 +22,7 @@ impl<B: Broadcast> Station<B> {
     // Whether the sender leads the view and made the block.
     #[tactic(auto, unfolding(model::specs::Voting::from_leader))]
     fn is_from_leader(&self, offer: Offer, block: BackboneBlock) -> bool
-        ensures { result ≡ from_leader self.now offer (Some (Backbone block)) }
+        ensures { result ≡ from_leader (core_of B.Observe self.now) offer (Some (Backbone block)) }
     {
         self.cast.numbers().leader(offer.view) == offer.station && block.author == offer.station
     }
@@ -30,7 +30,7 @@ impl<B: Broadcast> Station<B> {
     // Whether the parent is genesis, or the mask holds a quorum.
     #[tactic(auto, unfolding(model::specs::Voting::parent_certified))]
     fn is_parent_certified(&self, offer: Offer, block: BackboneBlock) -> bool
-        ensures { result ≡ parent_certified self.now offer (Some (Backbone block)) }
+        ensures { result ≡ parent_certified (core_of B.Observe self.now) offer (Some (Backbone block)) }
     {
         block.parent.view == 0 || self.cast.numbers().holds_quorum(offer.mask)
     }
@@ -38,7 +38,7 @@ impl<B: Broadcast> Station<B> {
     // Whether the parent is of the view before, or a quorum claims to know no certificate above it.
     #[tactic(auto, unfolding(model::specs::Voting::skips_claimed))]
     fn are_skips_claimed(&self, offer: Offer, claims: &[OfferClaim], block: BackboneBlock) -> bool
-        ensures { result ≡ skips_claimed self.now offer claims.now (Some (Backbone block)) }
+        ensures { result ≡ skips_claimed (core_of B.Observe self.now) offer claims.now (Some (Backbone block)) }
     {
         let numbers = self.cast.numbers();
         let parent = block.parent.view;
@@ -48,7 +48,7 @@ impl<B: Broadcast> Station<B> {
 
     // The questions on the offer's form.
     fn judge_offered_form(&self, offer: Offer, claims: &[OfferClaim]) -> Result<(), Refusal>
-        ensures { Judged (offered_form self.now offer claims.now) (λ _. Unit {0}) result }
+        ensures { Judged (offered_form (core_of B.Observe self.now) offer claims.now) (λ _. Unit {0}) result }
     {
         if offer.station >= self.cast.numbers().stations() {
             return Err(Refusal::NoSuchStation);
@@ -68,8 +68,8 @@ impl<B: Broadcast> Station<B> {
         offer: Offer,
         claims: &[OfferClaim],
     ) -> Result<(), Refusal>
-        ensures { Judged (offered_fit (desk_of self.now out.now) (book_of book.now) offer claims.now)
-            (λ _. MayVote (desk_of self.now out.now)) result }
+        ensures { Judged (offered_fit (desk_of B.Observe self.now out.now) (book_of book.now) offer claims.now)
+            (λ _. MayVote (desk_of B.Observe self.now out.now)) result }
     {
         let Some(Block::Backbone(block)) = book.find(offer.name) else {
             return Err(Refusal::NotHeld);
@@ -104,8 +104,8 @@ impl<B: Broadcast> Station<B> {
         offer: Offer,
         claims: &[OfferClaim],
     ) -> Result<(), Refusal>
-        ensures { OfferCall (desk_of self.old out.old) (book_of book.now) offer claims.now
-            (desk_of self.new out.new) result }
+        ensures { OfferCall (desk_of B.Observe self.old out.old) (book_of book.now) offer claims.now
+            (desk_of B.Observe self.new out.new) result }
     {
         self.judge_offered_form(offer, claims)?;
         self.judge_offered_fit(book, out, offer, claims)?;

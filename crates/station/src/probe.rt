@@ -10,7 +10,7 @@ impl<B: Broadcast> Station<B> {
     /// Answers the highest certificate where the height has reached the view. Else it shuts the second vote, sends the highest certificate
     /// unless that is genesis, states its claim and answers the height.
     pub fn probe(&mut self, out: &mut Outbox<'_>) -> Result<Probed, Refusal>
-        ensures { ProbeCall (desk_of self.old out.old) (desk_of self.new out.new) result }
+        ensures { ProbeCall (desk_of B.Observe self.old out.old) (desk_of B.Observe self.new out.new) result }
     {
         if !out.has_room(2) {
             return Err(Refusal::NoPlaces);

@@ -1,4 +1,5 @@
 ghost use Rattle.model.specs.Passing.{StartCall};
+ghost use Rattle.station.specs.Meaning.{core_of};
 
 use crate::stations::Station;
 use broadcast::Broadcast;
@@ -15,7 +16,7 @@ const GENESIS: Certificate = Certificate {
 impl<B: Broadcast> Station<B> {
     /// A new station in view 1, if f is from 1 to 9 and the own number at most 3f.
     pub fn start(f: u32, own: u32) -> Result<Station<B>, Refusal>
-        ensures { StartCall (λ s. s) f own result }
+        ensures { StartCall (core_of B.Observe) f own result }
     {
         let numbers = Numbers::new(f, own)?;
         Ok(Station {

@@ -1,19 +1,10 @@
-use broadcast::Observe;
 use model::State;
-use std::marker::Model;
 
 /// A station: the broadcast of its view, which has the numbers of Start and the view, and what it keeps beside it. It is not copied,
-/// since a copy could vote again. Clauses see it as what it keeps and what its broadcast means.
+/// since a copy could vote again.
+// No `impl Model`: it would ask `B: Observe` of every type that names a station.
 #[derive(Drop)]
-pub struct Station<B: Observe> {
+pub struct Station<B> {
     pub(crate) cast: B,
     pub(crate) state: State,
-}
-
-impl<B: Observe> Model for Station<B> {
-    ghost use Rattle.model.specs.Stations.{Core};
-
-    ghost Value = { Core };
-
-    ghost view = { λ s. record { state = s.state; cast = B.Observe.meaning s.cast } };
 }

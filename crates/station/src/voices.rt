@@ -5,7 +5,7 @@ ghost use Rattle.model.specs.Stations.{posted, sent, own_voice};
 ghost use Rattle.model.specs.Voting.{grade_at, gave, voices_form, voices_fit, certified, completing, VoicesCall};
 ghost use Rattle.places.specs.Held.{held, bound};
 ghost use Rattle.book.specs.Meaning.{book_of};
-ghost use Rattle.station.specs.Meaning.{desk_of};
+ghost use Rattle.station.specs.Meaning.{core_of, desk_of};
 ghost use Rattle.station.specs.Ready.{IsGrade, MayHear, gives, relaying};
 
 use crate::outbox::Outbox;
@@ -18,7 +18,7 @@ use model::{Certificate, Grade, Name, Refusal, SecondVote, Sent, Voices};
 impl<B: Broadcast> Station<B> {
     // The questions on the form of the voices, and their grade.
     fn judge_voices_form(&self, voices: Voices) -> Result<Grade, Refusal>
-        ensures { Judged (voices_form self.now voices) (IsGrade voices.grade) result }
+        ensures { Judged (voices_form (core_of B.Observe self.now) voices) (IsGrade voices.grade) result }
     {
         if !some_stations(self.cast.numbers(), voices.mask) {
             return Err(Refusal::NoSuchStation);
@@ -37,8 +37,8 @@ impl<B: Broadcast> Station<B> {
         voices: Voices,
     ) -> Result<(), Refusal>
         requires { grade ≡ grade_at voices.grade }
-        ensures { Judged (voices_fit B.Observe.fits B.Observe.free (desk_of self.now out.now) (book_of book.now) voices)
-            (λ _. MayHear B.Observe.fits B.Observe.free (desk_of self.now out.now) voices) result }
+        ensures { Judged (voices_fit B.Observe.fits B.Observe.free (desk_of B.Observe self.now out.now) (book_of book.now) voices)
+            (λ _. MayHear B.Observe.fits B.Observe.free (desk_of B.Observe self.now out.now) voices) result }
     {
         if !book.holds_backbone(voices.name, voices.view) {
             return Err(Refusal::NotHeld);
@@ -52,7 +52,7 @@ impl<B: Broadcast> Station<B> {
 
     // Voices of this view.
     fn voices_of(&self, grade: Grade, name: Name, mask: u32) -> Voices
-        ensures { result ≡ record { grade = graded grade; view = self.now.cast.view; name = name; mask = mask } }
+        ensures { result ≡ record { grade = graded grade; view = (B.Observe.meaning self.now.cast).view; name = name; mask = mask } }
     {
         Voices {
             grade: grade.into(),
@@ -64,14 +64,14 @@ impl<B: Broadcast> Station<B> {
 
     // The station's own voice.
     pub(crate) fn own_voice(&self, grade: Grade, name: Name) -> Sent
-        ensures { result ≡ sent (own_voice self.now (graded grade) name) }
+        ensures { result ≡ sent (own_voice (core_of B.Observe self.now) (graded grade) name) }
     {
         Sent::Voices(self.voices_of(grade, name, 1u32 << self.cast.numbers().own()))
     }
 
     // The certificate of that grade for the name, by those heard.
     fn certified(&self, grade: Grade, name: Name) -> Certificate
-        ensures { result ≡ certified self.now.cast grade name }
+        ensures { result ≡ certified (B.Observe.meaning self.now.cast) grade name }
     {
         Certificate::from(self.voices_of(grade, name, self.cast.mask(grade, name)))
     }
@@ -79,7 +79,7 @@ impl<B: Broadcast> Station<B> {
     // A second vote given since `before` is certified in grade 1, and sent.
     fn give(&mut self, out: &mut Outbox<'_>, before: SecondVote)
         requires { length (held out.old) < bound out.old }
-        ensures after { desk_of self.new out.new ≡ gives (gave before self.old.cast.second) (desk_of self.old out.old) }
+        ensures after { desk_of B.Observe self.new out.new ≡ gives (gave before (B.Observe.meaning self.old.cast).second) (desk_of B.Observe self.old out.old) }
         ensures few { length (held out.new) ≤ length (held out.old) + 1 }
     {
         if let (SecondVote::Waiting, SecondVote::Given(name)) = (before, self.cast.second()) {
@@ -90,7 +90,7 @@ impl<B: Broadcast> Station<B> {
 
     // A view that is complete for the name is certified in grade 2.
     fn complete(&mut self, name: Name)
-        ensures { self.new ≡ completing name self.old }
+        ensures { core_of B.Observe self.new ≡ completing name (core_of B.Observe self.old) }
     {
         if self.cast.is_complete(name) {
             self.take_up(self.certified(Grade::Two, name));
@@ -100,7 +100,7 @@ impl<B: Broadcast> Station<B> {
     // A mask that a Hear handed over is passed on, under the grade and name heard.
     fn relay(&self, out: &mut Outbox<'_>, grade: Grade, name: Name, send: Option<u32>)
         requires { length (held out.old) < bound out.old }
-        ensures { desk_of self.now out.new ≡ posted (relaying grade name send self.now) (desk_of self.now out.old) }
+        ensures { desk_of B.Observe self.now out.new ≡ posted (relaying grade name send (core_of B.Observe self.now)) (desk_of B.Observe self.now out.old) }
     {
         if let Some(mask) = send {
             out.put(Sent::Voices(self.voices_of(grade, name, mask)));
@@ -116,8 +116,8 @@ impl<B: Broadcast> Station<B> {
         out: &mut Outbox<'_>,
         voices: Voices,
     ) -> Result<(), Refusal>
-        ensures { VoicesCall B.Observe.fits B.Observe.free B.Broadcast.hears (desk_of self.old out.old) (book_of book.now) voices
-            (desk_of self.new out.new) result }
+        ensures { VoicesCall B.Observe.fits B.Observe.free B.Broadcast.hears (desk_of B.Observe self.old out.old) (book_of book.now) voices
+            (desk_of B.Observe self.new out.new) result }
     {
         let grade = self.judge_voices_form(voices)?;
         self.judge_voices_fit(book, out, grade, voices)?;
