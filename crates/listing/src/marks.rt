@@ -52,6 +52,8 @@ impl<'a> MarkedShelf<'a> {
     }
 
     // The shelf with a mark at all that these references lead to: each block is passed once, from the newest down.
+    // Always in line: else the marks, 4 KiB, are made in one place and moved to another.
+    #[inline(always)]
     pub(crate) fn reached(shelf: Shelf<'a>, start: References) -> MarkedShelf<'a>
         ensures shelf { result.shelf ≡ shelf.entry }
         ensures marks { Marks shelf.entry.blocks.now (Reached (find shelf.entry.blocks.now) (referred start)) result.marked }

@@ -129,6 +129,7 @@ impl Iterator for Names {
 
     ghost remaining = { item_count names_left };
 
+    // Always in line: where the names go through a loop, the row is then taken apart in place and not moved at each step.
     #[inline(always)]
     fn next(&mut self) -> Option<Name> {
         let (first, behind) = self.left.split_first()?;
