@@ -92,6 +92,7 @@ impl<'a, T: Copy, const N: usize> Bounded<'a, T, N> {
     }
 
     /// Takes the oldest out, if there is one; the others keep their order.
+    #[tactic(auto, using(crate::proofs::Lists::without_first))]
     pub fn oldest(&mut self) -> Option<T>
         ensures value { result ≡ slice_get (held self.old) 0 }
         ensures items { held self.new ≡ rest (held self.old) }
